@@ -1,0 +1,6 @@
+pub mod Reading
+pub mod Laws
+pub mod Extension
+pub mod ReadBack
+pub mod Took
+pub mod Examples

@@ -1,0 +1,75 @@
+// Forms for groups of fields: a test, and a part that is coded only under a condition.
+ghost use mathlib.Core.Path.{_≡_};
+ghost use Prim.Native.Nat.{min};
+ghost use Rattle.bit_reader.specs.Reading.{uRead, ueRead, seRead, demanded, bitsOr, signedOr};
+use super::BitsRead;
+use super::Cursor;
+use super::SignedRead;
+
+// A test: refuses with `number` where it fails, unless there is a refusal already.
+pub fn demand(ok: bool, number: u8, c: Cursor) -> Cursor
+    ensures { λ r. ⌜ r ≡ demanded ok number c ⌝ }
+{
+    if ok {
+        return c;
+    }
+    if c.refused != 0 {
+        return c;
+    }
+    Cursor {
+        at: c.at,
+        refused: number,
+    }
+}
+
+// A flag that is coded only where `on`; else it has the inferred value.
+pub fn flag_or(s: &[u8], on: bool, inferred: u32, c: Cursor) -> BitsRead
+    ensures { λ r. ⌜ r ≡ bitsOr on (uRead (now (s .entry)) c 1) inferred c ⌝ }
+{
+    if on {
+        return super::flag(s, c);
+    }
+    BitsRead {
+        value: inferred,
+        next: c,
+    }
+}
+
+// u(n) that is coded only where `on`.
+pub fn u_or(s: &[u8], on: bool, n: u32, inferred: u32, c: Cursor) -> BitsRead
+    ensures { λ r. ⌜ r ≡ bitsOr on (uRead (now (s .entry)) c (min n 32)) inferred c ⌝ }
+{
+    if on {
+        return super::u(s, c, n);
+    }
+    BitsRead {
+        value: inferred,
+        next: c,
+    }
+}
+
+// ue(v) that is coded only where `on`.
+pub fn ue_or(s: &[u8], on: bool, inferred: u32, c: Cursor) -> BitsRead
+    ensures { λ r. ⌜ r ≡ bitsOr on (ueRead (now (s .entry)) c) inferred c ⌝ }
+{
+    if on {
+        return super::ue(s, c);
+    }
+    BitsRead {
+        value: inferred,
+        next: c,
+    }
+}
+
+// se(v) that is coded only where `on`.
+pub fn se_or(s: &[u8], on: bool, inferred: i32, c: Cursor) -> SignedRead
+    ensures { λ r. ⌜ r ≡ signedOr on (seRead (now (s .entry)) c) inferred c ⌝ }
+{
+    if on {
+        return super::se(s, c);
+    }
+    SignedRead {
+        value: inferred,
+        next: c,
+    }
+}

@@ -1,0 +1,1 @@
+// Bits and the codes of H.266 9.2.

@@ -1,0 +1,7 @@
+pub mod Escape
+pub mod Laws
+pub mod Answers
+pub mod RoundTrip
+pub mod Lengths
+pub mod StartCodes
+pub mod Examples
