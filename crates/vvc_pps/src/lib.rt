@@ -1,0 +1,152 @@
+// The C interface: each function calls the library's of the same name. A slice crosses as a pointer and a length; an answer as a struct
+// with the number of the refusal, 0 where there is none, beside the values.
+ghost use mathlib.Core.Path.{_≡_};
+ghost use Prim.Native.Nat.{min};
+ghost use Rattle.nal.specs.Answers.{unescapeAnswer, unescapeOut, escapeAnswer, escapeOut};
+ghost use Rattle.h266.specs.Header.{headerOf};
+ghost use Rattle.code_length.specs.UeSize.{ueSizeOf};
+ghost use Rattle.bit_reader.specs.Reading.{uRead, ueRead, seRead, trailingRead};
+ghost use Rattle.bit_reader.specs.Extension.{extensionBits, moreRbspData};
+ghost use Rattle.vvc_pps.specs.Answers.{byteCount, nalHeader, ueSize};
+use bit_reader::BitsRead;
+use bit_reader::Cursor;
+use bit_reader::SignedRead;
+use code_length::UeSize;
+use h266::NalHeader;
+use h266::VvcNalHeader;
+use nal::ByteCount;
+
+#[repr(C)]
+pub struct VvcByteCount {
+    pub refused: u8,
+    pub bytes: usize,
+}
+
+#[repr(C)]
+pub struct VvcNalHeaderRead {
+    pub refused: u8,
+    pub header: VvcNalHeader,
+}
+
+#[repr(C)]
+pub struct VvcUeSize {
+    pub refused: u8,
+    pub bits: u32,
+}
+
+fn of_byte_count(c: ByteCount) -> VvcByteCount
+    ensures { λ r. ⌜ r ≡ byteCount c ⌝ }
+{
+    match c {
+        ByteCount::Bytes(n) => VvcByteCount {
+            refused: 0,
+            bytes: n,
+        },
+        ByteCount::Refused(k) => VvcByteCount {
+            refused: k,
+            bytes: 0,
+        },
+    }
+}
+
+#[no_mangle]
+pub extern "C" fn vvc_ebsp_to_rbsp(ebsp: &[u8], out: &mut [u8]) -> VvcByteCount
+    ensures { λ r. ⌜ r ≡ byteCount (unescapeAnswer (now (ebsp .entry)) (now (out .entry))) ⌝ }
+    ensures { λ _. ⌜ now (out .exit) ≡ unescapeOut (now (ebsp .entry)) (now (out .entry)) ⌝ }
+{
+    of_byte_count(nal::ebsp_to_rbsp(ebsp, out))
+}
+
+#[no_mangle]
+pub extern "C" fn vvc_rbsp_to_ebsp(rbsp: &[u8], out: &mut [u8]) -> VvcByteCount
+    ensures { λ r. ⌜ r ≡ byteCount (escapeAnswer (now (rbsp .entry)) (now (out .entry))) ⌝ }
+    ensures { λ _. ⌜ now (out .exit) ≡ escapeOut (now (rbsp .entry)) (now (out .entry)) ⌝ }
+{
+    of_byte_count(nal::rbsp_to_ebsp(rbsp, out))
+}
+
+fn of_header(h: NalHeader) -> VvcNalHeaderRead
+    ensures { λ r. ⌜ r ≡ nalHeader h ⌝ }
+{
+    match h {
+        NalHeader::Header(header) => VvcNalHeaderRead { refused: 0, header },
+        NalHeader::Refused(k) => VvcNalHeaderRead {
+            refused: k,
+            header: VvcNalHeader {
+                forbidden_zero_bit: 0,
+                nuh_reserved_zero_bit: 0,
+                nuh_layer_id: 0,
+                nal_unit_type: 0,
+                nuh_temporal_id_plus1: 0,
+            },
+        },
+    }
+}
+
+#[no_mangle]
+pub extern "C" fn vvc_parse_nal_header(nal: &[u8]) -> VvcNalHeaderRead
+    ensures { λ r. ⌜ r ≡ nalHeader (headerOf (now (nal .entry))) ⌝ }
+{
+    of_header(h266::parse_nal_header(nal))
+}
+
+fn of_size(s: UeSize) -> VvcUeSize
+    ensures { λ r. ⌜ r ≡ ueSize s ⌝ }
+{
+    match s {
+        UeSize::Bits(bits) => VvcUeSize { refused: 0, bits },
+        UeSize::Refused(k) => VvcUeSize {
+            refused: k,
+            bits: 0,
+        },
+    }
+}
+
+#[no_mangle]
+pub extern "C" fn vvc_ue_size(v: u32) -> VvcUeSize
+    ensures { λ r. ⌜ r ≡ ueSize (ueSizeOf v) ⌝ }
+{
+    of_size(code_length::ue_size(v))
+}
+
+#[no_mangle]
+pub extern "C" fn vvc_read_u(s: &[u8], c: Cursor, n: u32) -> BitsRead
+    ensures { λ r. ⌜ r ≡ uRead (now (s .entry)) c (min n 32) ⌝ }
+{
+    bit_reader::u(s, c, n)
+}
+
+#[no_mangle]
+pub extern "C" fn vvc_read_ue(s: &[u8], c: Cursor) -> BitsRead
+    ensures { λ r. ⌜ r ≡ ueRead (now (s .entry)) c ⌝ }
+{
+    bit_reader::ue(s, c)
+}
+
+#[no_mangle]
+pub extern "C" fn vvc_read_se(s: &[u8], c: Cursor) -> SignedRead
+    ensures { λ r. ⌜ r ≡ seRead (now (s .entry)) c ⌝ }
+{
+    bit_reader::se(s, c)
+}
+
+#[no_mangle]
+pub extern "C" fn vvc_read_rbsp_trailing_bits(s: &[u8], c: Cursor) -> Cursor
+    ensures { λ r. ⌜ r ≡ trailingRead (now (s .entry)) c ⌝ }
+{
+    bit_reader::rbsp_trailing_bits(s, c)
+}
+
+#[no_mangle]
+pub extern "C" fn vvc_more_rbsp_data(s: &[u8], at: usize) -> bool
+    ensures { λ r. ⌜ r ≡ moreRbspData (now (s .entry)) at ⌝ }
+{
+    bit_reader::more_rbsp_data(s, at)
+}
+
+#[no_mangle]
+pub extern "C" fn vvc_extension_bits(s: &[u8], at: usize) -> usize
+    ensures { λ r. ⌜ r ≡ extensionBits (now (s .entry)) at ⌝ }
+{
+    bit_reader::extension_bits(s, at)
+}
