@@ -6,7 +6,7 @@ use mathlib.Core.Bool.{Bool, true, false, cond}
 use native.Mathlib.Omega.{arith}
 use lib.Dec.{ltb, eqb}
 use lib.IntN.{ℤ}
-use native.Mathlib.Nat.{pow-suc}
+use native.Mathlib.Nat.{pow-suc, mod-eq-of-lt}
 use lib.Pow.{pow-mono, pow-pos}
 use mir.Syntax.{w32}
 use mir.Val.{SFits, toZ, ofZ}
@@ -16,8 +16,14 @@ use Rattle.codes.specs.Bytes.{bitCount, bitAt, bitsAt, bits-none, bits-one, bit
 use Rattle.codes.specs.ExpGolomb.{signedOf}
 use Rattle.bit_reader.specs.declared.Cursor.{Cursor}
 use Rattle.bit_reader.specs.declared.BitsRead.{BitsRead}
+use Rattle.bit_reader.specs.declared.ByteRead.{ByteRead}
 use Rattle.bit_reader.specs.declared.SignedRead.{SignedRead}
-use Rattle.bit_reader.specs.Reading.{cursorAt, refusal, unlessRefused, onward, uRead, stops, zerosAt, ueAfter, ueWithin, ueRead, seRead, trailingRead, demanded, bitsOr, signedOr}
+use Rattle.bit_reader.specs.Reading.{cursorAt, refusal, unlessRefused, onward, uRead, byteRead, stops, zerosAt, ueAfter, ueWithin, ueRead, seRead, trailingRead, demanded, byteOr, bitsOr, signedOr}
+
+-- what holds of both outcomes of a test
+by-test : (P : BitsRead → Type 0) (t : Bool) (x y : BitsRead) → (t ≡ true → P x) → (t ≡ false → P y) → P (cond t x y)
+by-test P true x y f g = f refl
+by-test P false x y f g = g refl
 
 -- ---- refusals stick
 pub open-reads : (c : Cursor) (r : BitsRead) → c .refused ≡ 0 → unlessRefused c r ≡ r
@@ -73,9 +79,33 @@ u-past s c n h l =
     ap (λ (d : Cursor). record { value = 0; next = d }) (cursor-is c h)
     ∙ u-made s c n 0 (c .at) h (sym (bits-past s (c .at) n l)) (sym (onward-past s (c .at) n l))
 
+-- as a byte
+pub byte-is : (s : List ℕ) (c : Cursor) (n : ℕ) (r : BitsRead) → r ≡ uRead s c n → record { value = r .value; next = r .next } ≡ byteRead s c n
+unfolding byteRead
+byte-is s c n r e = rw e
+
 pub flag-made : (s : List ℕ) (c : Cursor) (v : ℕ) → c .refused ≡ 0 → c .at < bitCount s → v ≡ bitAt s (c .at)
-    → record { value = v; next = cursorAt (c .at + 1) } ≡ uRead s c 1
-flag-made s c v h l e = u-made s c 1 v (c .at + 1) h (e ∙ sym (bits-one s (c .at))) (sym (onward-is s (c .at) 1 (omega arith)))
+    → record { value = v; next = cursorAt (c .at + 1) } ≡ byteRead s c 1
+flag-made s c v h l e =
+    byte-is s c 1 (record { value = v; next = cursorAt (c .at + 1) })
+    (u-made s c 1 v (c .at + 1) h (e ∙ sym (bits-one s (c .at))) (sym (onward-is s (c .at) 1 (omega arith))))
+
+pub flag-stays : (s : List ℕ) (c : Cursor) → (c .refused ≡ 0 → ⊥) → record { value = 0; next = c } ≡ byteRead s c 1
+flag-stays s c h = byte-is s c 1 (record { value = 0; next = c }) (u-stays s c 1 h)
+
+pub flag-past : (s : List ℕ) (c : Cursor) → c .refused ≡ 0 → bitCount s ≤ c .at → record { value = 0; next = c } ≡ byteRead s c 1
+flag-past s c h l = byte-is s c 1 (record { value = 0; next = c }) (u-past s c 1 h l)
+
+-- a value of n bits
+pub u-below : (s : List ℕ) (c : Cursor) (n : ℕ) → uRead s c n .value < 2 ^ n
+unfolding uRead unlessRefused
+u-below s c n = by-test (λ r. r .value < 2 ^ n) (eqb (c .refused) 0) _ _ (λ _. bits-lt s (c .at) n) (λ _. pow-pos n)
+
+-- a byte from a number of at most 8 bits
+pub small-made : (s : List ℕ) (c : Cursor) (n : ℕ) (r : BitsRead) → n ≤ 8 → r ≡ uRead s c n → record { value = r .value % 256; next = r .next } ≡ byteRead s c n
+small-made s c n r h e =
+    let l : r .value < 256 = omega (arith, ap (λ (x : BitsRead). x .value) e, u-below s c n, pow-mono {i = n} {j = 8} h) in
+    ap (λ (v : ℕ). record { value = v; next = r .next }) (mod-eq-of-lt l) ∙ byte-is s c n r e
 
 -- ---- runs of zeros
 pub zeros-none : (s : List ℕ) (at f : ℕ) → stops s at ≡ true → zerosAt s at f ≡ 0
@@ -139,11 +169,6 @@ ue-past s c w g h l =
 pub ue-is : (s : List ℕ) (c : Cursor) → ueRead s c ≡ ueWithin 32 s c
 unfolding ueRead
 ue-is s c = refl
-
--- what holds of both outcomes of a test
-by-test : (P : BitsRead → Type 0) (t : Bool) (x y : BitsRead) → (t ≡ true → P x) → (t ≡ false → P y) → P (cond t x y)
-by-test P true x y f g = f refl
-by-test P false x y f g = g refl
 
 -- the value is below 2^w − 1: a code number of w bits
 pub ue-below : (w : ℕ) (s : List ℕ) (c : Cursor) → 0 < w → ueWithin w s c .value + 1 < 2 ^ w
@@ -214,6 +239,14 @@ bits-coded on r v c e = rw e
 pub bits-absent : (on : Bool) (r : BitsRead) (v : ℕ) (c : Cursor) → on ≡ false → bitsOr on r v c ≡ record { value = v; next = c }
 unfolding bitsOr
 bits-absent on r v c e = rw e
+
+pub byte-coded : (on : Bool) (r : ByteRead) (v : ℕ) (c : Cursor) → on ≡ true → byteOr on r v c ≡ r
+unfolding byteOr
+byte-coded on r v c e = rw e
+
+pub byte-absent : (on : Bool) (r : ByteRead) (v : ℕ) (c : Cursor) → on ≡ false → byteOr on r v c ≡ record { value = v; next = c }
+unfolding byteOr
+byte-absent on r v c e = rw e
 
 pub signed-coded : (on : Bool) (r : SignedRead) (v : ℤ) (c : Cursor) → on ≡ true → signedOr on r v c ≡ r
 unfolding signedOr

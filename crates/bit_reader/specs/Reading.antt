@@ -9,6 +9,7 @@ use Rattle.codes.specs.Bytes.{bitCount, bitAt, bitsAt}
 use Rattle.codes.specs.ExpGolomb.{signedOf}
 use Rattle.bit_reader.specs.declared.Cursor.{Cursor}
 use Rattle.bit_reader.specs.declared.BitsRead.{BitsRead}
+use Rattle.bit_reader.specs.declared.ByteRead.{ByteRead}
 use Rattle.bit_reader.specs.declared.SignedRead.{SignedRead}
 
 -- a cursor with no refusal
@@ -30,6 +31,10 @@ onward s at n = min (at + n) (max at (bitCount s))
 -- u(n)
 unfoldable pub uRead : List ℕ → Cursor → ℕ → BitsRead
 uRead s c n = unlessRefused c (record { value = bitsAt s (c .at) n; next = cursorAt (onward s (c .at) n) })
+
+-- u(n) of at most 8 bits, as a byte
+unfoldable pub byteRead : List ℕ → Cursor → ℕ → ByteRead
+byteRead s c n = record { value = uRead s c n .value; next = uRead s c n .next }
 
 -- a run of zero bits ends at a 1 bit and at the end
 unfoldable pub stops : List ℕ → ℕ → Bool
@@ -77,6 +82,9 @@ demanded ok n c = cond ok c (cond (eqb (c .refused) 0) (refusal c n) c)
 -- what was read where a part is coded, else its inferred value
 unfoldable pub bitsOr : Bool → BitsRead → ℕ → Cursor → BitsRead
 bitsOr on r inferred c = cond on r (record { value = inferred; next = c })
+
+unfoldable pub byteOr : Bool → ByteRead → ℕ → Cursor → ByteRead
+byteOr on r inferred c = cond on r (record { value = inferred; next = c })
 
 unfoldable pub signedOr : Bool → SignedRead → ℤ → Cursor → SignedRead
 signedOr on r inferred c = cond on r (record { value = inferred; next = c })

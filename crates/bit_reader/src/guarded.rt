@@ -1,8 +1,9 @@
 // Forms for groups of fields: a test, and a part that is coded only under a condition.
 ghost use mathlib.Core.Path.{_≡_};
 ghost use Prim.Native.Nat.{min};
-ghost use Rattle.bit_reader.specs.Reading.{uRead, ueRead, seRead, demanded, bitsOr, signedOr};
+ghost use Rattle.bit_reader.specs.Reading.{uRead, byteRead, ueRead, seRead, demanded, byteOr, bitsOr, signedOr};
 use super::BitsRead;
+use super::ByteRead;
 use super::Cursor;
 use super::SignedRead;
 
@@ -23,13 +24,13 @@ pub fn demand(ok: bool, number: u8, c: Cursor) -> Cursor
 }
 
 // A flag that is coded only where `on`; else it has the inferred value.
-pub fn flag_or(s: &[u8], on: bool, inferred: u32, c: Cursor) -> BitsRead
-    ensures { λ r. ⌜ r ≡ bitsOr on (uRead (now (s .entry)) c 1) inferred c ⌝ }
+pub fn flag_or(s: &[u8], on: bool, inferred: u8, c: Cursor) -> ByteRead
+    ensures { λ r. ⌜ r ≡ byteOr on (byteRead (now (s .entry)) c 1) inferred c ⌝ }
 {
     if on {
         return super::flag(s, c);
     }
-    BitsRead {
+    ByteRead {
         value: inferred,
         next: c,
     }

@@ -4,7 +4,7 @@ ghost use mathlib.Core.Path.{_≡_};
 ghost use Prim.Native.Nat.{_+_, _-_, _*_, _/_, _^_, _≤_, _<_, min};
 ghost use Rattle.codes.specs.Bytes.{bitCount, bitAt, bitsAt};
 ghost use Rattle.codes.specs.ExpGolomb.{signedOf};
-ghost use Rattle.bit_reader.specs.Reading.{onward, zerosAt, uRead, ueRead, seRead, trailingRead};
+ghost use Rattle.bit_reader.specs.Reading.{onward, zerosAt, uRead, byteRead, ueRead, seRead, trailingRead};
 ghost use Rattle.bit_reader.specs.Extension.{moreRbspData, extensionBits};
 
 pub mod guarded;
@@ -19,6 +19,12 @@ pub struct Cursor {
 #[repr(C)]
 pub struct BitsRead {
     pub value: u32,
+    pub next: Cursor,
+}
+
+#[repr(C)]
+pub struct ByteRead {
+    pub value: u8,
     pub next: Cursor,
 }
 
@@ -45,14 +51,14 @@ pub fn bit_count(s: &[u8]) -> usize
 }
 
 // Bit `at`, 0 past the end.
-pub fn bit_at(s: &[u8], at: usize) -> u32
+pub fn bit_at(s: &[u8], at: usize) -> u8
     ensures { λ r. ⌜ r ≡ bitAt (now (s .entry)) at ⌝ }
 {
     let end = bit_count(s);
     if at < end {
         let i = at / 8;
         let shift = 7 - at % 8;
-        return wide((s[i] >> shift) % 2);
+        return (s[i] >> shift) % 2;
     }
     0
 }
@@ -79,7 +85,7 @@ fn bits_from(s: &[u8], at: usize, n: u32) -> u32
     let mut value: u32 = 0;
     let mut i: u32 = 0;
     while i < n {
-        let b = bit_at(s, at + (i as usize));
+        let b = wide(bit_at(s, at + (i as usize)));
         value = value * 2 + b;
         i += 1;
     }
@@ -119,19 +125,41 @@ pub fn u(s: &[u8], c: Cursor, n: u32) -> BitsRead
     }
 }
 
+// u(n) of at most 8 bits; more are read as 8.
+pub fn small_u(s: &[u8], c: Cursor, n: u32) -> ByteRead
+    ensures { λ r. ⌜ r ≡ byteRead (now (s .entry)) c (min n 8) ⌝ }
+{
+    let m = at_most_8(n);
+    let b = u(s, c, m);
+    let next = b.next;
+    ByteRead {
+        value: (b.value % 256) as u8,
+        next,
+    }
+}
+
+fn at_most_8(n: u32) -> u32
+    ensures { λ r. ⌜ r ≡ min n 8 ⌝ }
+{
+    if n <= 8 {
+        return n;
+    }
+    8
+}
+
 // u(1), by itself for speed.
-pub fn flag(s: &[u8], c: Cursor) -> BitsRead
-    ensures { λ r. ⌜ r ≡ uRead (now (s .entry)) c 1 ⌝ }
+pub fn flag(s: &[u8], c: Cursor) -> ByteRead
+    ensures { λ r. ⌜ r ≡ byteRead (now (s .entry)) c 1 ⌝ }
 {
     if c.refused != 0 {
-        return BitsRead { value: 0, next: c };
+        return ByteRead { value: 0, next: c };
     }
     let at = c.at;
     let end = bit_count(s);
     if at >= end {
-        return BitsRead { value: 0, next: c };
+        return ByteRead { value: 0, next: c };
     }
-    BitsRead {
+    ByteRead {
         value: bit_at(s, at),
         next: Cursor {
             at: at + 1,
@@ -256,7 +284,7 @@ pub fn extension_bits(s: &[u8], at: usize) -> usize
         return 0;
     }
     let mut p = end;
-    let mut seen: u32 = 0;
+    let mut seen: u8 = 0;
     while at < p {
         let b = bit_at(s, p - 1);
         if seen + b == 2 {

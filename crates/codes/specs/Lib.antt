@@ -5,4 +5,5 @@ pub mod Holds
 pub mod ExpGolomb
 pub mod Prefix
 pub mod Symbols
+pub mod Coded
 pub mod Examples

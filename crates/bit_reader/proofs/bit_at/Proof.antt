@@ -1,4 +1,4 @@
-use mathlib.Core.Path.{sym, _∙_}
+use mathlib.Core.Path.{sym}
 use native.Mathlib.Omega.{arith}
 use Rattle.codes.specs.Bytes.{bit-in, bit-past}
 use borrow.Author.Needs.{needs}
@@ -11,20 +11,17 @@ bit-count-requires c κs = search needs
 sub-shift : tie.Need-sub-shift
 sub-shift c = search needs
 
-shared-slice-read-wide : tie.Need-shared-slice-read-wide
-shared-slice-read-wide c = search needs
+shared-slice-read-result : tie.Need-shared-slice-read-result
+shared-slice-read-result c = search needs
 
-cast-wide : tie.Need-cast-wide
-cast-wide c = search needs
+cast-result : tie.Need-cast-result
+cast-result c = search needs
 
-shr-wide : tie.Need-shr-wide
-shr-wide c = search needs
-
-wide-requires : tie.Need-wide-requires
-wide-requires c κs = search needs
+shr-result : tie.Need-shr-result
+shr-result c = search needs
 
 returns : tie.Need-returns
-returns c = c .wide .ensures ∙ sym (bit-in _ _ (omega arith))
+returns c = sym (bit-in _ _ (omega arith))
 
 returns-2 : tie.Need-returns-2
 returns-2 c = sym (bit-past _ _ (omega arith))
@@ -35,9 +32,8 @@ bit-at-spec =
     (tie.spec
     bit-count-requires
     sub-shift
-    shared-slice-read-wide
-    cast-wide
-    shr-wide
-    wide-requires
+    shared-slice-read-result
+    cast-result
+    shr-result
     returns
     returns-2)

@@ -25,11 +25,14 @@ add-bit-at c = search needs
 bit-at-requires : tie.Need-bit-at-requires Inv-loop μ-loop
 bit-at-requires c κs = search needs
 
+wide-requires : tie.Need-wide-requires Inv-loop μ-loop
+wide-requires c κs = search needs
+
 mul-value : tie.Need-mul-value Inv-loop μ-loop
-mul-value c = omega (arith, bits-room (c .before .before .before .before .args .s .now) (c .before .before .before .before .args .at) (c .before .before .loop .i) (omega arith))
+mul-value c = omega (arith, bits-room (c .before .before .before .before .before .args .s .now) (c .before .before .before .before .before .args .at) (c .before .before .before .loop .i) (omega arith))
 
 add-value : tie.Need-add-value Inv-loop μ-loop
-add-value c = omega (arith, bits-room (c .before .before .before .before .args .s .now) (c .before .before .before .before .args .at) (c .before .before .loop .i) (omega arith), bit-lt (c .before .before .before .before .args .s .now) (c .before .before .before .before .args .at + c .before .before .loop .i))
+add-value c = omega (arith, bits-room (c .before .before .before .before .before .args .s .now) (c .before .before .before .before .before .args .at) (c .before .before .before .loop .i) (omega arith), bit-lt (c .before .before .before .before .before .args .s .now) (c .before .before .before .before .before .args .at + c .before .before .before .loop .i))
 
 add-i : tie.Need-add-i Inv-loop μ-loop
 add-i c = search needs
@@ -38,7 +41,7 @@ loop-less : tie.Need-loop-less Inv-loop μ-loop
 loop-less c = search needs
 
 loop-again : tie.Need-loop-again Inv-loop μ-loop
-loop-again c = omega (arith, bits-step (c .before .before .before .before .args .s .now) (c .before .before .before .before .args .at) (c .before .before .loop .i))
+loop-again c = omega (arith, bits-step (c .before .before .before .before .before .args .s .now) (c .before .before .before .before .before .args .at) (c .before .before .before .loop .i))
 
 returns : tie.Need-returns Inv-loop μ-loop
 returns c = c .before .loop .inv .1 ∙ ap (bitsAt _ _) (omega arith)
@@ -53,6 +56,7 @@ bits-from-spec =
     cast-bit-at
     add-bit-at
     bit-at-requires
+    wide-requires
     mul-value
     add-value
     add-i

@@ -1,17 +1,17 @@
 use native.Mathlib.Omega.{arith}
-use Rattle.bit_reader.specs.Laws.{u-stays, u-past, flag-made}
+use Rattle.bit_reader.specs.Laws.{flag-stays, flag-past, flag-made}
 use borrow.Author.Needs.{needs}
 use Rattle.bit_reader.proofs.flag.Statement.{statement}
 use Rattle.bit_reader.proofs.flag.Tie as tie
 
 returns : tie.Need-returns
-returns c = u-stays _ _ _ (c .if1 .taken)
+returns c = flag-stays _ _ (c .if1 .taken)
 
 bit-count-requires : tie.Need-bit-count-requires
 bit-count-requires c κs = search needs
 
 returns-2 : tie.Need-returns-2
-returns-2 c = u-past _ _ _ (c .before .before .if1 .left) (omega arith)
+returns-2 c = flag-past _ _ (c .before .before .if1 .left) (omega arith)
 
 bit-at-requires : tie.Need-bit-at-requires
 bit-at-requires c κs = search needs
