@@ -5,6 +5,7 @@ ghost use Prim.Native.Nat.{min};
 ghost use Rattle.partition.specs.Partition.{inCtbs};
 ghost use Rattle.pps_record.specs.Ctbs.{ctbsOf};
 
+pub mod groups;
 pub mod lengths;
 
 // pps_conf_win_offsets

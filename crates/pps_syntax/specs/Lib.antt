@@ -1,0 +1,12 @@
+pub mod Head
+pub mod SubpicIds
+pub mod SliceSyntax
+pub mod PartitionSyntax
+pub mod References
+pub mod Offsets
+pub mod Chroma
+pub mod Deblocking
+pub mod PictureHeader
+pub mod Pps
+pub mod Rbsp
+pub mod Examples

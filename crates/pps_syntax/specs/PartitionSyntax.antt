@@ -1,0 +1,115 @@
+-- The tile and slice partition block (H.266 7.3.2.5, 7.4.3.5) of a picture of W by H luma samples: one description, read and written.
+use Prim.Native.Nat.{ℕ, zero, suc, _+_, _-_, _/_, _≤_, _<_}
+use mathlib.Core.Path.{_≡_, refl, sym, ap, _∙_}
+use mathlib.Core.List.{List, [], _∷_, map}
+use mathlib.Core.Bool.{Bool, true, false, not, cond, _&&_, _||_}
+use native.Mathlib.Omega.{arith}
+use lib.Dec.{eqb, ltb, leb, lit<}
+use lib.ListN.{length}
+use borrow.Author.Tests.{ne-eqb}
+use Rattle.partition.specs.Entry.{firstPosition}
+use Rattle.partition.specs.Grid.{Grid, tiles, maxTileColumns, maxTiles, maxSlicesMinus1}
+use Rattle.partition.specs.Partition.{Partition, inCtbs, tileGrid}
+use Rattle.partition.specs.Sizes.{sum, explicitSizes, axisSizes}
+use Rattle.pps_syntax.specs.SliceSyntax.{RectSlice, entryOf, rectSlices}
+use Rattle.syntax.specs.Element.{Element}
+use Rattle.syntax.specs.Elements.{u, flag, ue, flagIf, limited, absent, sameℕ, orElse, isSet}
+use Rattle.syntax.specs.Lists.{many, none, many-length}
+use Rattle.syntax.specs.Round.{structure}
+use Rattle.syntax.specs.Syntax.{Syntax, done, onWriting, onReading, onBoth, _for_, _>>=_, _&_, rebuilt, Faithful, Whole}
+
+pub record PartitionBlock : Type 0 where
+  pub «pps_log2_ctu_size_minus5» : ℕ
+  pub «pps_tile_column_width_minus1» : List ℕ
+  pub «pps_tile_row_height_minus1» : List ℕ
+  pub «pps_loop_filter_across_tiles_enabled_flag» : ℕ
+  pub «pps_rect_slice_flag» : ℕ
+  pub «pps_single_slice_per_subpic_flag» : ℕ
+  pub «pps_num_slices_in_pic_minus1» : ℕ
+  pub «pps_tile_idx_delta_present_flag» : ℕ
+  pub rectSlices : List RectSlice
+  pub «pps_loop_filter_across_slices_enabled_flag» : ℕ
+
+-- there are explicit columns and rows
+abbrev pub some : List ℕ → Bool
+some l = not (eqb (length l) 0)
+
+-- rectangular slices are coded
+abbrev pub coded : ℕ → ℕ → Bool
+coded rect single = isSet rect && eqb single 0
+
+module _ (W H : ℕ) where
+  unfoldable pub partition : Syntax PartitionBlock
+  partition = do
+    ctu ← limited (u 2 0) (λ v. leb v 2) 9 (lit< tt) for (λ r. r .«pps_log2_ctu_size_minus5»)
+    let w = inCtbs W ctu
+    let h = inCtbs H ctu
+    onWriting (λ r. some (r .«pps_tile_column_width_minus1») && some (r .«pps_tile_row_height_minus1»)) 10 do
+      cols ← ue for (λ r. length (r .«pps_tile_column_width_minus1») - 1)
+      rows ← ue for (λ r. length (r .«pps_tile_row_height_minus1») - 1)
+      onReading (ltb cols maxTileColumns && ltb rows maxTiles) 10 (lit< tt) do
+        widths ← many (suc cols) (limited ue (λ v. ltb v w) 11 (lit< tt)) 10 for (λ r. r .«pps_tile_column_width_minus1»)
+        heights ← many (suc rows) (limited ue (λ v. ltb v h) 11 (lit< tt)) 10 for (λ r. r .«pps_tile_row_height_minus1»)
+        onBoth (leb (sum (explicitSizes widths)) w) 12 (lit< tt)
+            (onBoth (leb (length (axisSizes widths w)) maxTileColumns) 13 (lit< tt)
+            (onBoth (leb (sum (explicitSizes heights)) h) 12 (lit< tt)
+            (onBoth (leb (length (axisSizes heights h)) (maxTiles / length (axisSizes widths w))) 13 (lit< tt) do
+              let g = tileGrid W H ctu widths heights
+              let several = ltb 1 (tiles g)
+              acrossTiles ← flagIf several for (λ r. r .«pps_loop_filter_across_tiles_enabled_flag»)
+              rect ← orElse several flag (absent sameℕ 1 26) for (λ r. r .«pps_rect_slice_flag»)
+              single ← flagIf (isSet rect) for (λ r. r .«pps_single_slice_per_subpic_flag»)
+              let on = coded rect single
+              N ← orElse on (limited ue (λ v. leb v maxSlicesMinus1) 14 (lit< tt)) (absent sameℕ 0 0) for (λ r. r .«pps_num_slices_in_pic_minus1»)
+              deltas ← flagIf (on && ltb 1 N) for (λ r. r .«pps_tile_idx_delta_present_flag»)
+              slices ← orElse on (rectSlices g (isSet deltas) N firstPosition) (none 26) for (λ r. r .rectSlices)
+              acrossSlices ← flagIf (not (on && eqb N 0)) for (λ r. r .«pps_loop_filter_across_slices_enabled_flag»)
+              done (record {
+                «pps_log2_ctu_size_minus5» = ctu;
+                «pps_tile_column_width_minus1» = widths;
+                «pps_tile_row_height_minus1» = heights;
+                «pps_loop_filter_across_tiles_enabled_flag» = acrossTiles;
+                «pps_rect_slice_flag» = rect;
+                «pps_single_slice_per_subpic_flag» = single;
+                «pps_num_slices_in_pic_minus1» = N;
+                «pps_tile_idx_delta_present_flag» = deltas;
+                rectSlices = slices;
+                «pps_loop_filter_across_slices_enabled_flag» = acrossSlices;
+              }))))
+
+  one-less : (a n : ℕ) → a ≡ suc n → a - 1 ≡ n
+  one-less a n e = omega arith
+
+  some-of : (ws hs : List ℕ) (m n : ℕ) → length ws ≡ suc m → length hs ≡ suc n → (some ws && some hs) ≡ true
+  some-of ws hs m n p q = rw (p, q, ne-eqb (suc m) 0 (λ e. omega arith), ne-eqb (suc n) 0 (λ e. omega arith))
+
+  pub partition-faithful : Faithful partition (λ _. Unit {0})
+  unfolding partition Faithful _>>=_
+  partition-faithful =
+      λ ctu _ c _ r _ lim ws p hs q t₁ t₂ t₃ t₄ a _ b _ s _ n _ d _ l _ z _.
+      let m = many-length _ _ _ ws p in
+      let k = many-length _ _ _ hs q in
+      tt & refl & some-of ws hs c r m k & one-less _ _ m & one-less _ _ k & refl & refl & t₁ & t₂ & t₃ & t₄ & refl & refl & refl & refl & refl & refl & refl
+
+  pub partition-whole : Whole partition
+  unfolding partition rebuilt _>>=_
+  partition-whole r = refl
+
+  abbrev pub partitionElement : Element PartitionBlock
+  partitionElement = structure partition partition-faithful partition-whole
+
+  -- the numbers of the block, as the definitions of tiles and slices take them
+  unfoldable pub partitionOf : PartitionBlock → Partition
+  partitionOf r =
+      record {
+        width = W;
+        height = H;
+        log2CtuSizeMinus5 = r .«pps_log2_ctu_size_minus5»;
+        columnWidthsMinus1 = r .«pps_tile_column_width_minus1»;
+        rowHeightsMinus1 = r .«pps_tile_row_height_minus1»;
+        rectangular = isSet (r .«pps_rect_slice_flag»);
+        singleSlice = isSet (r .«pps_single_slice_per_subpic_flag»);
+        N = r .«pps_num_slices_in_pic_minus1»;
+        deltas = isSet (r .«pps_tile_idx_delta_present_flag»);
+        entries = map entryOf (r .rectSlices);
+      }

@@ -1,0 +1,40 @@
+-- The subpicture id mapping (H.266 7.3.2.5, 7.4.3.5).
+use Prim.Native.Nat.{ℕ, suc}
+use mathlib.Core.Path.{_≡_, refl}
+use mathlib.Core.List.{List}
+use mathlib.Core.Bool.{Bool, cond, _&&_}
+use lib.Dec.{leb, lit<}
+use Rattle.syntax.specs.Element.{Element}
+use Rattle.syntax.specs.Elements.{u, flag, ue, limited, absent, sameℕ, orElse, isSet}
+use Rattle.syntax.specs.Lists.{many, none}
+use Rattle.syntax.specs.Round.{structure}
+use Rattle.syntax.specs.Syntax.{Syntax, done, _for_, _>>=_, _&_, rebuilt, Faithful, Whole}
+
+pub record SubpicIds : Type 0 where
+  pub present : ℕ
+  pub «pps_num_subpics_minus1» : ℕ
+  pub «pps_subpic_id_len_minus1» : ℕ
+  pub «pps_subpic_id» : List ℕ
+
+-- The count is coded in a partitioned picture, else 0 is inferred and writing any other is refused with 26. Writing refuses another number of ids, or an id too
+-- large for its length, with 27
+module _ (partitioned : Bool) where
+  unfoldable pub subpicIds : Syntax SubpicIds
+  subpicIds = do
+    present ← flag for (λ r. r .present)
+    let on = isSet present
+    num ← orElse (on && partitioned) (limited ue (λ v. leb v 999) 8 (lit< tt)) (absent sameℕ 0 (cond on 26 0)) for (λ r. r .«pps_num_subpics_minus1»)
+    len ← orElse on (limited ue (λ v. leb v 15) 8 (lit< tt)) (absent sameℕ 0 0) for (λ r. r .«pps_subpic_id_len_minus1»)
+    ids ← orElse on (many (suc num) (u (suc len) 27) 27) (none 0) for (λ r. r .«pps_subpic_id»)
+    done (record { present = present; «pps_num_subpics_minus1» = num; «pps_subpic_id_len_minus1» = len; «pps_subpic_id» = ids })
+
+  pub subpicIds-faithful : Faithful subpicIds (λ _. Unit {0})
+  unfolding subpicIds Faithful _>>=_
+  subpicIds-faithful = λ a _ b _ c _ d _. tt & refl & refl & refl & refl
+
+  pub subpicIds-whole : Whole subpicIds
+  unfolding subpicIds rebuilt _>>=_
+  subpicIds-whole r = refl
+
+  abbrev pub subpicIdsElement : Element SubpicIds
+  subpicIdsElement = structure subpicIds subpicIds-faithful subpicIds-whole
