@@ -1,6 +1,7 @@
 pub mod Head
 pub mod SubpicIds
 pub mod SliceSyntax
+pub mod SliceTables
 pub mod PartitionSyntax
 pub mod References
 pub mod Offsets
