@@ -18,7 +18,7 @@ use Rattle.pps_syntax.specs.Deblocking.{deblocking}
 use Rattle.pps_syntax.specs.Head.{head, confWin, scalingWin, kind}
 use Rattle.pps_syntax.specs.PartitionSyntax.{partition}
 use Rattle.pps_syntax.specs.PictureHeader.{pictureHeader}
-use Rattle.pps_syntax.specs.Pps.{Pps, pps}
+use Rattle.pps_syntax.specs.Pps.{Pps, front, back, pps}
 use Rattle.pps_syntax.specs.Rbsp.{ReadSet, ReadAnswer, accepted, refused, extensionFor, answered, readRbsp, beforeFields, rbspOf, readNal}
 use Rattle.pps_syntax.specs.References.{references}
 use Rattle.pps_syntax.specs.SliceSyntax.{rectSlices}
@@ -30,7 +30,7 @@ data Outcome : Type 0 where
   refuses : ℕ → Outcome
 
 outcome : ReadAnswer → Outcome
-outcome (accepted r) = takes (r .set .head .«pps_pic_width_in_luma_samples») (r .set .head .«pps_pic_height_in_luma_samples») (r .extensionFirstBit) (r .extensionCount) (r .bytesTaken)
+outcome (accepted r) = takes (r .set .front .head .«pps_pic_width_in_luma_samples») (r .set .front .head .«pps_pic_height_in_luma_samples») (r .extensionFirstBit) (r .extensionCount) (r .bytesTaken)
 outcome (refused n) = refuses n
 
 record Example : Type 0 where
@@ -58,5 +58,5 @@ table =
     ∷ []
 
 all : map (λ (e : Example). outcome (readNal (e .nal) 65535 true)) table ≡ map (λ (e : Example). e .wanted) table
-unfolding table outcome bitAt bitsAt signedOf zeroRun isEscape unescapeFrom unescape ones takenWhileMore extensionBits unlessRefused onward uRead stops zerosAt ueAfter ueWithin ueRead seRead trailingRead demanded orElse many _>>=_ parse chroma deblocking head confWin scalingWin kind pictureHeader pps extensionFor answered readRbsp beforeFields rbspOf readNal references subpicIds partition tileGrid axisSizes explicitSizes inCtbs uniformSizes sum uniformSize tailSize rectSlices walk
+unfolding table outcome bitAt bitsAt signedOf zeroRun isEscape unescapeFrom unescape ones takenWhileMore extensionBits unlessRefused onward uRead stops zerosAt ueAfter ueWithin ueRead seRead trailingRead demanded orElse many _>>=_ parse chroma deblocking head confWin scalingWin kind pictureHeader front back pps extensionFor answered readRbsp beforeFields rbspOf readNal references subpicIds partition tileGrid axisSizes explicitSizes inCtbs uniformSizes sum uniformSize tailSize rectSlices walk
 all = refl

@@ -27,7 +27,7 @@ pub data ReadAnswer : Type 0 where
 
 -- pps_extension_data_flag is taken while more_rbsp_data() holds, where pps_extension_flag is set
 unfoldable pub extensionFor : List ℕ → Parsed Pps → ℕ
-extensionFor s p = cond (isSet (p .value .pictureHeader .«pps_extension_flag») && eqb (p .next .refused) 0) (extensionBits s (p .next .at)) 0
+extensionFor s p = cond (isSet (p .value .back .pictureHeader .«pps_extension_flag») && eqb (p .next .refused) 0) (extensionBits s (p .next .at)) 0
 
 -- the cursor behind the extension bits
 abbrev pub behindExtension : Cursor → ℕ → Cursor
