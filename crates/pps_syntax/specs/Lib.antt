@@ -9,5 +9,6 @@ pub mod Chroma
 pub mod Deblocking
 pub mod PictureHeader
 pub mod Pps
+pub mod Record
 pub mod Rbsp
 pub mod Examples
