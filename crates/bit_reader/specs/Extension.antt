@@ -66,6 +66,20 @@ taken-run s (suc d) at n h l =
     ap (takenWhileMore s at) (suc-add d (suc n)) ∙ taken-one s at (d + suc n) more
     ∙ ap suc (taken-run s d (at + 1) n (rw i at h) (rw i at l))
 
+taken-le : (s : List ℕ) (at n : ℕ) → takenWhileMore s at n ≤ n
+unfolding takenWhileMore
+taken-le s at zero = omega arith
+taken-le s at (suc n) = split (leb 2 (ones s at (suc n))) (taken-le s (at + 1) n)
+  where
+    split : (t : Bool) → takenWhileMore s (at + 1) n ≤ n → elim t [ true ↦ suc (takenWhileMore s (at + 1) n) | false ↦ 0 ] ≤ suc n
+    split true h = omega arith
+    split false h = omega arith
+
+-- no further than the end
+pub extension-le : (s : List ℕ) (at : ℕ) → extensionBits s at ≤ bitCount s - at
+unfolding extensionBits
+extension-le s at = taken-le s at (bitCount s - at)
+
 -- fewer than two 1 bits: none is taken
 pub extension-none : (s : List ℕ) (at : ℕ) → ones s at (bitCount s - at) < 2 → extensionBits s at ≡ 0
 unfolding extensionBits
