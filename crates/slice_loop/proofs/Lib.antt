@@ -1,0 +1,2 @@
+pub mod SliceLoop
+pub mod Signed

@@ -1,0 +1,29 @@
+use borrow.Author.Needs.{needs}
+use Rattle.tile_grid.proofs.Fill.{filled-table, grid-made}
+use Rattle.tile_grid.proofs.accepted_grid.Statement.{statement}
+use Rattle.tile_grid.proofs.accepted_grid.Tie as tie
+
+slice-aggregate-sizes-into : tie.Need-slice-aggregate-sizes-into
+slice-aggregate-sizes-into c = search needs
+
+sizes-into-requires : tie.Need-sizes-into-requires
+sizes-into-requires c κs = search needs
+
+slice-aggregate-sizes-into-2 : tie.Need-slice-aggregate-sizes-into-2
+slice-aggregate-sizes-into-2 c = search needs
+
+sizes-into-requires-2 : tie.Need-sizes-into-requires-2
+sizes-into-requires-2 c κs = search needs
+
+returns : tie.Need-returns
+returns c = grid-made _ _ _ _ _ _ (c .before .before .before .before .before .before .before .before .pre .0 .counted) (c .before .before .before .before .before .before .before .before .pre .1 .counted) (filled-table 30 _ _ (c .before .before .before .before .sizes-into .ensures)) (filled-table 990 _ _ (c .before .sizes-into2 .ensures))
+
+pub accepted-grid-spec : {M : Type 1} → statement M
+accepted-grid-spec =
+    tie.close
+    (tie.spec
+    slice-aggregate-sizes-into
+    sizes-into-requires
+    slice-aggregate-sizes-into-2
+    sizes-into-requires-2
+    returns)

@@ -1,0 +1,68 @@
+-- What the functions of this crate answer, by the definitions of `partition`.
+use mathlib.Core.List.{List, [], _∷_, _++_}
+use mathlib.Core.Bool.{cond}
+use mathlib.Core.Path.{_≡_}
+use Prim.Native.Nat.{ℕ, suc, _-_, _≤_, min}
+use lib.Dec.{ltb}
+use lib.ListN.{length, replicate}
+use Rattle.partition.specs.Sizes.{sum, explicitSizes, axisSizes, Fit}
+use Rattle.partition.specs.Grid.{Grid, maxTileColumns, maxTiles}
+use Rattle.partition.specs.Checks.{Outcome, fine, refusedWith, firstBad}
+use Rattle.partition.specs.Entry.{numSlicesInTile}
+use Rattle.partition.specs.Partition.{tileGrid, gridChecks}
+use Rattle.tile_grid.specs.declared.TileGrid.{TileGrid}
+use Rattle.tile_grid.specs.declared.GridAnswer.{GridAnswer}
+use Rattle.tile_grid.specs.declared.SlicesInTile.{SlicesInTile}
+
+-- ---- the grid
+
+-- The next size on an axis, of which `remaining` is left: an explicit one, or the uniform one, or the tail.
+unfoldable pub nextSize : List ℕ → ℕ → ℕ → ℕ
+nextSize [] uniform remaining = min uniform remaining
+nextSize (e ∷ es) uniform remaining = suc e
+
+unfoldable pub zeros : ℕ → List ℕ
+zeros n = replicate n 0
+
+-- A table of n places: the sizes, then zeros.
+unfoldable pub tableOf : ℕ → List ℕ → List ℕ
+tableOf n ss = ss ++ zeros (n - length ss)
+
+-- 0 and the grid of these sizes.
+unfoldable pub gridOfSizes : List ℕ → List ℕ → GridAnswer
+gridOfSizes ws hs =
+    record {
+      refused = 0;
+      grid = record { «num_tile_columns» = length ws; «num_tile_rows» = length hs; «column_widths» = tableOf maxTileColumns ws; «row_heights» = tableOf maxTiles hs };
+    }
+
+-- The sizes of an axis, so many, fit a table of n places.
+pub record FitsTable (es : List ℕ) (total count n : ℕ) : Type 0 where
+  pub some : 1 ≤ length es
+  pub fit : Fit es total
+  pub counted : count ≡ length (axisSizes es total)
+  pub room : length (axisSizes es total) ≤ n
+
+-- A refusal's grid: zeros throughout.
+unfoldable pub noGrid : TileGrid
+noGrid = record { «num_tile_columns» = 0; «num_tile_rows» = 0; «column_widths» = zeros maxTileColumns; «row_heights» = zeros maxTiles }
+
+unfoldable pub refusedGrid : ℕ → GridAnswer
+refusedGrid n = record { refused = n; grid = noGrid }
+
+-- A refusal with its number, or 0 and the grid.
+unfoldable pub gridFor : Outcome → Grid → GridAnswer
+gridFor fine g = gridOfSizes (g .columnWidths) (g .rowHeights)
+gridFor (refusedWith n) g = refusedGrid n
+
+unfoldable pub gridAnswer : ℕ → ℕ → ℕ → List ℕ → List ℕ → GridAnswer
+gridAnswer width height ctu ws hs = gridFor (firstBad (gridChecks width height ctu ws hs)) (tileGrid width height ctu ws hs)
+
+-- ---- the slices of a tile
+
+-- 16, or the number of slices.
+unfoldable pub slicesInTile : List ℕ → ℕ → SlicesInTile
+slicesInTile heightsMinus1 rowHeight =
+    cond (ltb rowHeight (sum (explicitSizes heightsMinus1)))
+    (record { refused = 16; «num_slices» = 0 })
+    (record { refused = 0; «num_slices» = numSlicesInTile heightsMinus1 rowHeight })
