@@ -7,10 +7,19 @@ ghost use Rattle.h266.specs.Header.{headerOf};
 ghost use Rattle.code_length.specs.UeSize.{ueSizeOf};
 ghost use Rattle.bit_reader.specs.Reading.{uRead, ueRead, seRead, trailingRead};
 ghost use Rattle.bit_reader.specs.Extension.{extensionBits, moreRbspData};
+ghost use mathlib.Core.List.{[], _∷_};
+ghost use Prim.Native.Nat.{_%_};
+ghost use Rattle.codes.specs.Bits.{toBits};
+ghost use Rattle.codes.specs.Bytes.{bitList};
+ghost use Rattle.codes.specs.Coded.{ueSymbols, seSymbols};
+ghost use Rattle.codes.specs.Symbols.{putting};
+ghost use Rattle.bit_writer.specs.Writing.{sinkOver, fresh, play, closed};
+ghost use Rattle.bit_writer.specs.Answers.{answerOf};
 ghost use Rattle.vvc_pps.specs.Answers.{byteCount, nalHeader, ueSize};
 use bit_reader::BitsRead;
 use bit_reader::Cursor;
 use bit_reader::SignedRead;
+use bit_writer::Sink;
 use code_length::UeSize;
 use h266::NalHeader;
 use h266::VvcNalHeader;
@@ -149,4 +158,70 @@ pub extern "C" fn vvc_extension_bits(s: &[u8], at: usize) -> usize
     ensures { λ r. ⌜ r ≡ extensionBits (now (s .entry)) at ⌝ }
 {
     bit_reader::extension_bits(s, at)
+}
+
+// A sink that has put nothing yet.
+#[no_mangle]
+pub extern "C" fn vvc_sink(escape: bool) -> Sink
+    ensures { λ r. ⌜ r ≡ fresh escape 0 ⌝ }
+{
+    bit_writer::start(escape)
+}
+
+#[no_mangle]
+pub extern "C" fn vvc_put_bit(w: Sink, out: &mut [u8], bit: u32) -> Sink
+    ensures { λ r. ⌜ sinkOver r (now (out .exit)) ≡ play (sinkOver w (now (out .entry))) (putting (bit % 2 ∷ [])) ⌝ }
+{
+    bit_writer::put_bit(w, out, bit)
+}
+
+#[no_mangle]
+pub extern "C" fn vvc_put_bits(w: Sink, out: &mut [u8], value: u32, n: u32) -> Sink
+    ensures { λ r. ⌜ sinkOver r (now (out .exit)) ≡ play (sinkOver w (now (out .entry))) (putting (toBits (min n 32) value)) ⌝ }
+{
+    bit_writer::put_bits(w, out, value, n)
+}
+
+#[no_mangle]
+pub extern "C" fn vvc_put_ue(w: Sink, out: &mut [u8], v: u32) -> Sink
+    ensures { λ r. ⌜ sinkOver r (now (out .exit)) ≡ play (sinkOver w (now (out .entry))) (ueSymbols v) ⌝ }
+{
+    bit_writer::put_ue(w, out, v)
+}
+
+#[no_mangle]
+pub extern "C" fn vvc_put_se(w: Sink, out: &mut [u8], v: i32) -> Sink
+    ensures { λ r. ⌜ sinkOver r (now (out .exit)) ≡ play (sinkOver w (now (out .entry))) (seSymbols v) ⌝ }
+{
+    bit_writer::put_se(w, out, v)
+}
+
+// The bits of other bytes, from bit `from` on.
+#[no_mangle]
+pub extern "C" fn vvc_put_copy(
+    w: Sink,
+    out: &mut [u8],
+    bytes: &[u8],
+    from: usize,
+    count: usize,
+) -> Sink
+    ensures { λ r. ⌜ sinkOver r (now (out .exit)) ≡ play (sinkOver w (now (out .entry))) (putting (bitList (now (bytes .entry)) from count)) ⌝ }
+{
+    bit_writer::copy::put_copy(w, out, bytes, from, count)
+}
+
+// rbsp_trailing_bits(), and the end of an escaped payload.
+#[no_mangle]
+pub extern "C" fn vvc_close(w: Sink, out: &mut [u8]) -> Sink
+    ensures { λ r. ⌜ sinkOver r (now (out .exit)) ≡ closed (sinkOver w (now (out .entry))) ⌝ }
+{
+    bit_writer::close(w, out)
+}
+
+// What a sink says of an output of so many bytes: a refusal, 29, or the bytes put.
+#[no_mangle]
+pub extern "C" fn vvc_sink_answer(w: Sink, room: usize) -> VvcByteCount
+    ensures { λ r. ⌜ r ≡ byteCount (answerOf w room) ⌝ }
+{
+    of_byte_count(bit_writer::answer(w, room))
 }

@@ -1,0 +1,5 @@
+pub mod Steps
+pub mod Chunked
+pub mod Coding
+pub mod Copying
+pub mod Signed
