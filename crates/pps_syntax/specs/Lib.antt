@@ -12,3 +12,10 @@ pub mod Pps
 pub mod Record
 pub mod Rbsp
 pub mod Examples
+pub mod EntryAccepted
+pub mod WalkAccepted
+pub mod Laid
+pub mod TrailingTaken
+pub mod ReadWhole
+pub mod ReadAccepted
+pub mod ReadDemand
