@@ -19,3 +19,5 @@ pub mod TrailingTaken
 pub mod ReadWhole
 pub mod ReadAccepted
 pub mod ReadDemand
+pub mod Written
+pub mod WrittenBack
