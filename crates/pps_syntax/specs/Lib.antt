@@ -21,3 +21,4 @@ pub mod ReadAccepted
 pub mod ReadDemand
 pub mod Written
 pub mod WrittenBack
+pub mod FromRecord

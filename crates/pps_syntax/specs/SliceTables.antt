@@ -1,9 +1,11 @@
 -- The slice entries in the tables that a caller lends: a table for each field, entry i at place i, and the split heights of all entries one behind the other.
 use Prim.Native.Nat.{ℕ, zero, suc, _+_}
+use mathlib.Core.Bool.{cond}
 use mathlib.Core.List.{List, [], _∷_, _++_, map}
 use lib.IntN.{ℤ, pos}
 use lib.ListN.{length, getD, take, drop}
 use lib.Seq.{sets}
+use Rattle.syntax.specs.Elements.{isSet}
 use Rattle.pps_syntax.specs.SliceSyntax.{RectSlice}
 
 pub record SliceTables : Type 0 where
@@ -36,6 +38,10 @@ putSlices t i j rs =
       splitHeights = sets (t .splitHeights) j (allSplitHeights rs);
     }
 
+-- how many split heights entry i has: none where its split part is absent
+unfoldable pub splitCount : SliceTables → ℕ → ℕ
+splitCount t i = cond (isSet (getD (t .splitPresent) i 0)) (getD (t .splitCounts) i 0) 0
+
 -- entry i of the tables, its split heights starting at place j
 unfoldable pub sliceAt : SliceTables → ℕ → ℕ → RectSlice
 sliceAt t i j =
@@ -43,7 +49,7 @@ sliceAt t i j =
       «pps_slice_width_in_tiles_minus1» = getD (t .widths) i 0;
       «pps_slice_height_in_tiles_minus1» = getD (t .heights) i 0;
       splitPresent = getD (t .splitPresent) i 0;
-      «pps_exp_slice_height_in_ctus_minus1» = take (getD (t .splitCounts) i 0) (drop j (t .splitHeights));
+      «pps_exp_slice_height_in_ctus_minus1» = take (splitCount t i) (drop j (t .splitHeights));
       deltaPresent = getD (t .deltaPresent) i 0;
       «pps_tile_idx_delta_val» = getD (t .deltas) i (pos 0);
     }
@@ -51,4 +57,9 @@ sliceAt t i j =
 -- n entries from entry i on
 unfoldable pub slicesFrom : SliceTables → ℕ → ℕ → ℕ → List RectSlice
 slicesFrom t i j zero = []
-slicesFrom t i j (suc n) = sliceAt t i j ∷ slicesFrom t (i + 1) (j + getD (t .splitCounts) i 0) n
+slicesFrom t i j (suc n) = sliceAt t i j ∷ slicesFrom t (i + 1) (j + splitCount t i) n
+
+-- the split heights that n entries from entry i on take in all
+unfoldable pub splitTotal : SliceTables → ℕ → ℕ → ℕ
+splitTotal t i zero = 0
+splitTotal t i (suc n) = splitCount t i + splitTotal t (i + 1) n
