@@ -1,0 +1,82 @@
+-- What reading leaves in the lent tables, and what it answers (document 01): unchanged after 1 to 5, zero throughout after 6 to 23, and after an acceptance the entries in use,
+-- then zeros.
+use Prim.Native.Nat.{ℕ}
+use mathlib.Core.List.{List, [], _∷_, map}
+use mathlib.Core.Bool.{Bool, cond}
+use lib.Dec.{eqb}
+use lib.IntN.{ℤ, pos}
+use lib.ListN.{length}
+use Rattle.tables.specs.Tables.{blank, over}
+use Rattle.pps_record.specs.declared.VvcPps.{VvcPps}
+use Rattle.pps_syntax.specs.FromRecord.{Lent}
+use Rattle.pps_syntax.specs.PartitionSyntax.{PartitionBlock}
+use Rattle.pps_syntax.specs.Pps.{Pps}
+use Rattle.pps_syntax.specs.Rbsp.{ReadSet, ReadAnswer, accepted, refused, readRbsp, beforeFields, rbspOf}
+use Rattle.pps_syntax.specs.Record.{rowOf}
+use Rattle.pps_syntax.specs.SliceSyntax.{RectSlice}
+use Rattle.pps_syntax.specs.SliceTables.{SliceTables, putSlices}
+
+-- ---- the lists of a set, empty without a partition
+abbrev pub columnsOf : List PartitionBlock → List ℕ
+columnsOf [] = []
+columnsOf (p ∷ ps) = p .«pps_tile_column_width_minus1»
+
+abbrev pub rowsOf : List PartitionBlock → List ℕ
+rowsOf [] = []
+rowsOf (p ∷ ps) = p .«pps_tile_row_height_minus1»
+
+abbrev pub slicesOf : List PartitionBlock → List RectSlice
+slicesOf [] = []
+slicesOf (p ∷ ps) = p .rectSlices
+
+-- ---- the tables
+abbrev pub zeros : List ℕ → List ℕ
+zeros t = blank (length t) 0
+
+unfoldable pub clearedSlices : SliceTables → SliceTables
+clearedSlices t =
+    record {
+      widths = zeros (t .widths);
+      heights = zeros (t .heights);
+      splitPresent = zeros (t .splitPresent);
+      splitCounts = zeros (t .splitCounts);
+      deltaPresent = zeros (t .deltaPresent);
+      deltas = blank (length (t .deltas)) (pos 0);
+      splitHeights = zeros (t .splitHeights);
+    }
+
+-- zero throughout, however long they are
+unfoldable pub cleared : Lent → Lent
+cleared t =
+    record {
+      subpicIds = zeros (t .subpicIds);
+      columnWidths = zeros (t .columnWidths);
+      rowHeights = zeros (t .rowHeights);
+      slices = clearedSlices (t .slices);
+      triples = blank (length (t .triples)) (pos 0 ∷ pos 0 ∷ pos 0 ∷ []);
+    }
+
+-- the entries in use, then zeros
+unfoldable pub filled : Pps → Lent → Lent
+filled r t =
+    let z : Lent = cleared t in
+    record {
+      subpicIds = over (r .front .subpicIds .«pps_subpic_id») (z .subpicIds);
+      columnWidths = over (columnsOf (r .partition)) (z .columnWidths);
+      rowHeights = over (rowsOf (r .partition)) (z .rowHeights);
+      slices = putSlices (z .slices) 0 0 (slicesOf (r .partition));
+      triples = over (map rowOf (r .back .chroma .list)) (z .triples);
+    }
+
+-- after the fields were looked at
+unfoldable pub afterFields : ReadAnswer → Lent → Lent
+afterFields (accepted a) t = filled (a .set) t
+afterFields (refused n) t = cleared t
+
+-- ---- after reading a NAL unit
+unfoldable pub tablesAfter : List ℕ → ℕ → Bool → Lent → Lent
+tablesAfter nal workLength tablesLong t = cond (eqb (beforeFields nal workLength tablesLong) 0) (afterFields (readRbsp (rbspOf nal)) t) t
+
+-- the work buffer starts with the RBSP once the fields are looked at
+unfoldable pub workAfter : List ℕ → Bool → List ℕ → List ℕ
+workAfter nal tablesLong work = cond (eqb (beforeFields nal (length work) tablesLong) 0) (over (rbspOf nal) work) work
