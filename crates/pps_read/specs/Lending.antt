@@ -2,6 +2,7 @@
 -- then zeros.
 use Prim.Native.Nat.{ℕ}
 use mathlib.Core.List.{List, [], _∷_, map}
+use mathlib.Core.Path.{_≡_}
 use mathlib.Core.Bool.{Bool, cond}
 use lib.Dec.{eqb}
 use lib.IntN.{ℤ, pos}
@@ -14,7 +15,7 @@ use Rattle.pps_syntax.specs.Pps.{Pps}
 use Rattle.pps_syntax.specs.Rbsp.{ReadSet, ReadAnswer, accepted, refused, readRbsp, beforeFields, rbspOf}
 use Rattle.pps_syntax.specs.Record.{rowOf}
 use Rattle.pps_syntax.specs.SliceSyntax.{RectSlice}
-use Rattle.pps_syntax.specs.SliceTables.{SliceTables, putSlices}
+use Rattle.pps_syntax.specs.SliceTables.{SliceTables, sliceTables, putSlices}
 
 -- ---- the lists of a set, empty without a partition
 abbrev pub columnsOf : List PartitionBlock → List ℕ
@@ -80,3 +81,9 @@ tablesAfter nal workLength tablesLong t = cond (eqb (beforeFields nal workLength
 -- the work buffer starts with the RBSP once the fields are looked at
 unfoldable pub workAfter : List ℕ → Bool → List ℕ → List ℕ
 workAfter nal tablesLong work = cond (eqb (beforeFields nal (length work) tablesLong) 0) (over (rbspOf nal) work) work
+
+-- each table by itself
+pub slices-cleared : (t : SliceTables) {ws hs sp sc dp sh : List ℕ} {ds : List ℤ} → ws ≡ zeros (t .widths) → hs ≡ zeros (t .heights) → sp ≡ zeros (t .splitPresent) → sc ≡ zeros (t .splitCounts)
+    → dp ≡ zeros (t .deltaPresent) → ds ≡ blank (length (t .deltas)) (pos 0) → sh ≡ zeros (t .splitHeights) → sliceTables ws hs sp sc dp ds sh ≡ clearedSlices t
+unfolding clearedSlices
+slices-cleared t a b c d e f g = rw (a, b, c, d, e, f, g)

@@ -4,6 +4,9 @@ ghost use lib.ListN.{length};
 ghost use Rattle.bit_reader.specs.Reading.{trailingRead};
 ghost use Rattle.pps_syntax.specs.Rbsp.{beforeFields, behindExtension};
 ghost use Rattle.pps_read.specs.Ends.{extensionAt};
+
+mod clear;
+
 use bit_reader::Cursor;
 use h266::NalHeader;
 
