@@ -12,6 +12,7 @@ pub mod Pps
 pub mod Record
 pub mod Rbsp
 pub mod Examples
+pub mod SameTests
 pub mod EntryAccepted
 pub mod WalkAccepted
 pub mod Laid
@@ -19,6 +20,10 @@ pub mod TrailingTaken
 pub mod ReadWhole
 pub mod ReadAccepted
 pub mod ReadDemand
+pub mod RefusalSteps
+pub mod EntryRefusal
+pub mod WalkRefusal
+pub mod BlockRefusal
 pub mod Written
 pub mod WrittenBack
 pub mod FromRecord

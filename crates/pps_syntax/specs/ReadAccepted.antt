@@ -1,35 +1,24 @@
 -- The partition block of a set that reading accepted: one where the picture is partitioned, none where it is not, and the block is accepted by the definitions of
 -- tiles and slices.
-use Prim.Native.Nat.{ℕ, suc, _+_, _-_, _*_, _/_, _%_, _≤_, _<_}
-use mathlib.Core.Path.{_≡_, refl, sym, ap, subst, _∙_}
+use Prim.Native.Nat.{ℕ}
+use mathlib.Core.Path.{_≡_, refl, subst}
 use mathlib.Core.List.{List, [], _∷_}
 use mathlib.Core.Logic.{_↔_}
-use mathlib.Core.Bool.{Bool, true, false, cond, _&&_}
+use mathlib.Core.Bool.{Bool, true, false}
 use native.Mathlib.Omega.{arith}
-use lib.Dec.{eqb}
-use lib.ListN.{replicate}
-use borrow.Author.Tests.{eqb-true}
-use Rattle.bit_reader.specs.declared.Cursor.{Cursor}
-use Rattle.bit_reader.specs.Extension.{extensionBits}
-use Rattle.bit_reader.specs.Reading.{cursorAt, trailingRead}
-use Rattle.bit_reader.specs.Took.{Going}
-use Rattle.codes.specs.Bytes.{bitCount, bitAt}
-use Rattle.codes.specs.Holds.{Holds}
 use Rattle.codes.specs.Symbols.{refusalIn}
 use Rattle.partition.specs.Accepted.{Accepted}
 use Rattle.partition.specs.Partition.{Partition}
 use Rattle.pps_syntax.specs.Laid.{block-accepted}
 use Rattle.pps_syntax.specs.PartitionSyntax.{PartitionBlock, partition, partitionElement, partitionOf}
-use Rattle.pps_syntax.specs.Pps.{Pps, partitioned, picWidth, picHeight, pps, pps-faithful}
-use Rattle.pps_syntax.specs.Rbsp.{ReadSet, ReadAnswer, accepted, refused, extensionFor, behindExtension, answered, readRbsp, beforeFields, rbspOf, readNal}
-use Rattle.pps_syntax.specs.TrailingTaken.{Trailing, trailing-accepted, extension-last}
-use Rattle.syntax.specs.Element.{Parsed, Consumed}
-use Rattle.syntax.specs.Elements.{isSet, orElse}
+use Rattle.pps_syntax.specs.Pps.{Pps, partitioned, picWidth, picHeight, pps}
+use Rattle.pps_syntax.specs.Rbsp.{ReadSet, accepted, readRbsp}
+use Rattle.pps_syntax.specs.ReadWhole.{read-whole}
+use Rattle.syntax.specs.Elements.{orElse}
 use Rattle.syntax.specs.Facts.{Facts, facts}
 use Rattle.syntax.specs.Lists.{many, none, not-true}
-use Rattle.syntax.specs.Round.{and-parts, refusal-parts, read-then-written}
-use Rattle.syntax.specs.Syntax.{_>>=_, parse, symbolsFor, canonicalFor, refusalFor}
-use Rattle.pps_syntax.specs.ReadWhole.{read-whole}
+use Rattle.syntax.specs.Round.{and-parts, refusal-parts}
+use Rattle.syntax.specs.Syntax.{_>>=_, symbolsFor, canonicalFor, refusalFor}
 
 -- the numbers of a set's partition, its block being b
 abbrev pub pictureOf : Pps → PartitionBlock → Partition
@@ -50,7 +39,7 @@ one-block W H (b ∷ []) h c =
     (b, refl, block-accepted W H b (refusal-parts (symbolsFor (partition W H) b) [] h .0) (and-parts (canonicalFor (partition W H) b) true c .0))
 one-block W H (b ∷ x ∷ bs) h c = absurd (not-true (and-parts (canonicalFor (partition W H) b) false c .1))
 
--- a set whose fields reading could have given and that writing refuses nowhere
+-- a set whose fields writing refuses nowhere and reading could have given
 module _ (r : Pps) (h : refusalFor pps r ≡ 0) (c : canonicalFor pps r ≡ true) where
   pub set-partition-accepted : partitioned (r .front .kind) ≡ true → OneBlock r
   unfolding pps Facts _>>=_ orElse

@@ -1,8 +1,7 @@
 -- A set that reading accepted was inside its bytes all along: its fields took exactly the bits that writing them puts, then came the extension bits and the trailing bits.
-use Prim.Native.Nat.{ℕ, suc, _+_, _-_, _*_, _/_, _%_, _≤_, _<_}
-use mathlib.Core.Path.{_≡_, refl, sym, ap, subst, _∙_}
-use mathlib.Core.List.{List, [], _∷_}
-use mathlib.Core.Logic.{_↔_}
+use Prim.Native.Nat.{ℕ, _+_, _-_, _*_, _/_, _%_, _<_}
+use mathlib.Core.Path.{_≡_, refl, subst}
+use mathlib.Core.List.{List, _∷_, _++_}
 use mathlib.Core.Bool.{Bool, true, false, cond, _&&_}
 use native.Mathlib.Omega.{arith}
 use lib.Dec.{eqb}
@@ -12,22 +11,15 @@ use Rattle.bit_reader.specs.declared.Cursor.{Cursor}
 use Rattle.bit_reader.specs.Extension.{extensionBits}
 use Rattle.bit_reader.specs.Reading.{cursorAt, trailingRead}
 use Rattle.bit_reader.specs.Took.{Going}
-use Rattle.codes.specs.Bytes.{bitCount, bitAt}
-use Rattle.codes.specs.Holds.{Holds}
-use Rattle.codes.specs.Symbols.{refusalIn}
-use Rattle.partition.specs.Accepted.{Accepted}
-use Rattle.partition.specs.Partition.{Partition}
-use Rattle.pps_syntax.specs.Laid.{block-accepted}
-use Rattle.pps_syntax.specs.PartitionSyntax.{PartitionBlock, partition, partitionElement, partitionOf}
-use Rattle.pps_syntax.specs.Pps.{Pps, partitioned, picWidth, picHeight, pps, pps-faithful}
-use Rattle.pps_syntax.specs.Rbsp.{ReadSet, ReadAnswer, accepted, refused, extensionFor, behindExtension, answered, readRbsp, beforeFields, rbspOf, readNal}
-use Rattle.pps_syntax.specs.TrailingTaken.{Trailing, trailing-accepted, extension-last}
+use Rattle.codes.specs.Bytes.{bitAt, bitList}
+use Rattle.codes.specs.Holds.{Holds, holds-append}
+use Rattle.pps_syntax.specs.Pps.{Pps, pps, pps-faithful}
+use Rattle.pps_syntax.specs.Rbsp.{ReadSet, accepted, refused, extensionFor, behindExtension, answered, readRbsp, beforeFields, rbspOf, readNal}
+use Rattle.pps_syntax.specs.TrailingTaken.{Trailing, trailing-accepted, extension-last, holds-there}
 use Rattle.syntax.specs.Element.{Parsed, Consumed}
-use Rattle.syntax.specs.Elements.{isSet, orElse}
-use Rattle.syntax.specs.Facts.{Facts, facts}
-use Rattle.syntax.specs.Lists.{many, none, not-true}
-use Rattle.syntax.specs.Round.{and-parts, refusal-parts, read-then-written}
-use Rattle.syntax.specs.Syntax.{_>>=_, parse, symbolsFor, canonicalFor, refusalFor}
+use Rattle.syntax.specs.Elements.{isSet}
+use Rattle.syntax.specs.Round.{read-then-written}
+use Rattle.syntax.specs.Syntax.{parse, bitsFor, symbolsFor, canonicalFor}
 
 -- the fields of an RBSP, as the description reads them, and the place behind the extension bits
 abbrev pub fieldsRead : List ℕ → Parsed Pps
@@ -56,15 +48,16 @@ accepted-same a b e = cc
 refused-accepted : (n : ℕ) (a : ReadSet) → refused n ≡ accepted a → ⊥
 refused-accepted n a e = let z : _≡_ {A = ℕ} 0 1 = cc in omega arith
 
-abbrev saidOf : Pps → ℕ → ℕ → Cursor → ReadSet
-saidOf r at n d = record { set = r; extensionFirstBit = cond (eqb n 0) 0 at; extensionCount = n; bytesTaken = d .at / 8 }
+-- what an accepted answer says
+abbrev said : Pps → ℕ → ℕ → Cursor → ReadSet
+said r at n d = record { set = r; extensionFirstBit = cond (eqb n 0) 0 at; extensionCount = n; bytesTaken = d .at / 8 }
 
-answered-accepted : (r : Pps) (at n : ℕ) (d : Cursor) (a : ReadSet) → answered r at n d ≡ accepted a → (d .refused ≡ 0) × (saidOf r at n d ≡ a)
+answered-accepted : (r : Pps) (at n : ℕ) (d : Cursor) (a : ReadSet) → answered r at n d ≡ accepted a → (d .refused ≡ 0) × (said r at n d ≡ a)
 unfolding answered
 answered-accepted r at n d a e = split (eqb (d .refused) 0) refl e
   where
-    split : (b : Bool) → eqb (d .refused) 0 ≡ b → cond b (accepted (saidOf r at n d)) (refused (d .refused)) ≡ accepted a → (d .refused ≡ 0) × (saidOf r at n d ≡ a)
-    split true q z = (eqb-true (d .refused) 0 q, accepted-same (saidOf r at n d) a z)
+    split : (b : Bool) → eqb (d .refused) 0 ≡ b → cond b (accepted (said r at n d)) (refused (d .refused)) ≡ accepted a → (d .refused ≡ 0) × (said r at n d ≡ a)
+    split true q z = (eqb-true (d .refused) 0 q, accepted-same (said r at n d) a z)
     split false q z = absurd (refused-accepted (d .refused) a z)
 
 -- where bits are taken for the extension, the last is a 1
@@ -76,36 +69,38 @@ last-of s p h = split (isSet (p .value .back .pictureHeader .«pps_extension_fla
     split true h = extension-last s (p .next .at) h
     split false h = absurd (omega arith)
 
-module _ (rbsp : List ℕ) where
-  n : ℕ
-  n = extensionFor rbsp (fieldsRead rbsp)
+-- what is said of an RBSP whose trailing bits are accepted
+whole : (rbsp : List ℕ) (n : ℕ) (d : Cursor) → n ≡ extensionFor rbsp (fieldsRead rbsp) → Trailing rbsp (behindExtension (fieldsRead rbsp .next) n) d
+    → ReadWhole rbsp (said (fieldsRead rbsp .value) (fieldsRead rbsp .next .at) n d)
+whole rbsp n d e t =
+    let at : ℕ = fieldsRead rbsp .next .at + n in
+    let g : Going rbsp (fieldsRead rbsp .next) = record { unrefused = t .going .unrefused; inside = omega (arith, t .going .inside) } in
+    let taken : d .at / 8 * 8 ≡ at / 8 * 8 + 8 = rw (t .ends) (omega arith) in
+    record {
+      set-is = refl;
+      fields = read-then-written pps pps-faithful rbsp (cursorAt 0) g;
+      going = g;
+      extension-count = e;
+      extension-first = refl;
+      extension-last = rw e (last-of rbsp (fieldsRead rbsp));
+      trailing = rw taken (t .bits);
+    }
 
-  end : Cursor
-  end = behindExtension (fieldsRead rbsp .next) n
+-- Reading that accepted a set was inside all along.
+pub read-whole : (rbsp : List ℕ) (a : ReadSet) → readRbsp rbsp ≡ accepted a → ReadWhole rbsp a
+unfolding readRbsp
+read-whole rbsp a e =
+    let n : ℕ = extensionFor rbsp (fieldsRead rbsp) in
+    let c : Cursor = behindExtension (fieldsRead rbsp .next) n in
+    let b = answered-accepted (fieldsRead rbsp .value) (fieldsRead rbsp .next .at) n (trailingRead rbsp c) a e in
+    subst (ReadWhole rbsp) (b .1) (whole rbsp n (trailingRead rbsp c) refl (trailing-accepted rbsp c (b .0)))
 
-  -- what is said where the trailing bits are accepted
-  whole : Trailing rbsp end (trailingRead rbsp end) → ReadWhole rbsp (saidOf (fieldsRead rbsp .value) (fieldsRead rbsp .next .at) n (trailingRead rbsp end))
-  unfolding n end
-  whole t =
-      let g : Going rbsp (fieldsRead rbsp .next) = record { unrefused = t .going .unrefused; inside = omega (arith, t .going .inside) } in
-      let at : ℕ = end .at in
-      let taken : trailingRead rbsp end .at / 8 * 8 ≡ at / 8 * 8 + 8 = rw (t .ends) (omega arith) in
-      record {
-        set-is = refl;
-        fields = read-then-written pps pps-faithful rbsp (cursorAt 0) g;
-        going = g;
-        extension-count = refl;
-        extension-first = refl;
-        extension-last = last-of rbsp (fieldsRead rbsp);
-        trailing = rw taken (t .bits);
-      }
-
-  -- Reading that accepted a set was inside all along.
-  pub read-whole : (a : ReadSet) → readRbsp rbsp ≡ accepted a → ReadWhole rbsp a
-  unfolding readRbsp n end
-  read-whole a e =
-      let b = answered-accepted (fieldsRead rbsp .value) (fieldsRead rbsp .next .at) n (trailingRead rbsp end) a e in
-      subst (ReadWhole rbsp) (b .1) (whole (trailing-accepted rbsp end (b .0)))
+-- So the bytes taken hold the bits of its fields, its extension bits and the trailing bits, and nothing else.
+pub bytes-hold : (rbsp : List ℕ) (a : ReadSet) → ReadWhole rbsp a
+    → Holds rbsp 0 (bitsFor pps (a .set) ++ (bitList rbsp (fieldsRead rbsp .next .at) (a .extensionCount) ++ (1 ∷ replicate (7 - trailingAt rbsp a % 8) 0))) (a .bytesTaken * 8)
+bytes-hold rbsp a w =
+    let at : ℕ = fieldsRead rbsp .next .at in
+    holds-append (w .fields .took .bits) (holds-append (holds-there rbsp at (a .extensionCount) (omega (arith, w .trailing .reaches, w .trailing .inside))) (w .trailing))
 
 -- and so of a NAL unit's payload
 pub nal-accepted : (nal : List ℕ) (workLength : ℕ) (tablesLong : Bool) (a : ReadSet) → readNal nal workLength tablesLong ≡ accepted a → readRbsp (rbspOf nal) ≡ accepted a

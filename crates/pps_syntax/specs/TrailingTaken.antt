@@ -1,19 +1,18 @@
 -- rbsp_trailing_bits() that reading accepted (H.266 7.3.2), and the extension bits before it.
 use Prim.Native.Nat.{ℕ, zero, suc, _+_, _-_, _*_, _/_, _%_, _≤_, _<_}
-use mathlib.Core.Path.{_≡_, refl, sym, ap, ap₂, _∙_}
-use mathlib.Core.List.{List, [], _∷_}
-use mathlib.Core.Bool.{Bool, true, false, cond}
-use native.Mathlib.Nat.{add-zero}
+use mathlib.Core.Path.{_≡_, refl, ap, ap₂, _∙_}
+use mathlib.Core.List.{List, _∷_}
+use mathlib.Core.Bool.{Bool, true, false}
 use native.Mathlib.Omega.{arith}
 use lib.Dec.{ltb, leb, eqb}
 use lib.ListN.{length, replicate, length-replicate}
 use borrow.Author.Tests.{eqb-true, eqb-false, ltb-true, leb-true, leb-false}
 use Rattle.codes.specs.Bits.{toBits, toBits-zero}
-use Rattle.codes.specs.Bytes.{bitCount, bitAt, bitsAt, bitList, bitList-toBits, bit-lt}
+use Rattle.codes.specs.Bytes.{bitCount, bitAt, bitsAt, bitList, bitList-length, bitList-toBits, bit-lt}
 use Rattle.codes.specs.Holds.{Holds}
 use Rattle.bit_reader.specs.declared.Cursor.{Cursor}
 use Rattle.bit_reader.specs.Extension.{ones, takenWhileMore, extensionBits}
-use Rattle.bit_reader.specs.Reading.{cursorAt, refusal, trailingRead}
+use Rattle.bit_reader.specs.Reading.{cursorAt, trailingRead}
 use Rattle.bit_reader.specs.Took.{Going}
 
 -- a 1, then zeros up to the next byte
@@ -89,3 +88,9 @@ taken-last s (suc n) at h = split (leb 2 (ones s at (suc n))) refl (eqb (takenWh
 pub extension-last : (s : List ℕ) (at : ℕ) → 0 < extensionBits s at → bitAt s (at + extensionBits s at - 1) ≡ 1
 unfolding extensionBits
 extension-last s at h = taken-last s (bitCount s - at) at h
+
+-- bits that are there are held
+pub holds-there : (s : List ℕ) (at n : ℕ) → at + n ≤ bitCount s → Holds s at (bitList s at n) (at + n)
+holds-there s at n h =
+    let l : length (bitList s at n) ≡ n = bitList-length s at n in
+    record { reaches = ap (λ (k : ℕ). at + k) l; inside = h; same = ap (bitList s at) l }

@@ -1,11 +1,10 @@
 -- The slice loop: where writing its entries is refused nowhere and reading could have given them, the walk of the questions places them.
 use Prim.Native.Nat.{ℕ, zero, suc, _+_, _-_, _≤_, _<_}
-use mathlib.Core.Path.{_≡_, refl, ap}
+use mathlib.Core.Path.{_≡_, refl}
 use mathlib.Core.List.{List, [], _∷_, map}
-use mathlib.Core.Bool.{Bool, true, false, cond, _&&_}
+use mathlib.Core.Bool.{Bool, true, false, cond}
 use native.Mathlib.Omega.{arith}
 use lib.Dec.{eqb, ltb}
-use lib.ListN.{length}
 use borrow.Author.Tests.{le-ltb}
 use Rattle.codes.specs.Symbols.{refusalIn}
 use Rattle.partition.specs.Checks.{Outcome, fine, firstBad, passed}
@@ -13,7 +12,7 @@ use Rattle.partition.specs.Entry.{Entry, Position, asking, splitCoded, splitHei
 use Rattle.partition.specs.Grid.{Grid}
 use Rattle.partition.specs.Groups.{Group}
 use Rattle.partition.specs.Sizes.{some-size}
-use Rattle.partition.specs.Walk as layout
+use Rattle.partition.specs.Walk as walks
 use Rattle.partition.specs.Walk.{rowHeightOf, entryGroup, lastGroup, Walked, placed, after, checksAt, onward}
 use Rattle.pps_syntax.specs.EntryAccepted.{entry-accepted}
 use Rattle.pps_syntax.specs.SliceSyntax.{RectSlice, entryOf, rectSlice, rectSliceElement, rectSlices}
@@ -48,17 +47,17 @@ module _ (g : Grid) (deltas : Bool) (N : ℕ) where
 
   -- what the questions' walk makes of the same entries
   abbrev pub walked : Position → List RectSlice → Walked
-  walked k rs = layout.walk asking g deltas N k (map entryOf rs)
+  walked k rs = walks.walk asking g deltas N k (map entryOf rs)
 
   -- its end
   at-end : (k : Position) → ltb (k .slice) N ≡ false → (ps : List Group) × (walked k [] ≡ placed ps)
-  unfolding layout.walk
+  unfolding walks.walk
   at-end k e = (cond (eqb (k .slice) N) (lastGroup g (k .tile) ∷ []) [], rw e)
 
   -- and a turn of it
   turn : (k : Position) (r : RectSlice) (rs : List RectSlice) → ltb (k .slice) N ≡ true → firstBad (checksAt asking g deltas N k (entryOf r)) ≡ fine
       → (ps : List Group) × (walked (onward g deltas k (entryOf r)) rs ≡ placed ps) → (ps : List Group) × (walked k (r ∷ rs) ≡ placed ps)
-  unfolding layout.walk
+  unfolding walks.walk
   turn k r rs e ok rest = (entryGroup g (k .tile) (entryOf r) ∷ rest .0, rw e (after-fine _ _ _ (rest .0) ok (rest .1)))
 
   turns-accepted : (n : ℕ) (k : Position) (rs : List RectSlice) → N ≤ k .slice + n → refusalIn (turnsLeft n k .symbols rs) ≡ 0 → turnsLeft n k .canonical rs ≡ true
