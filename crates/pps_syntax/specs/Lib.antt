@@ -24,6 +24,8 @@ pub mod RefusalSteps
 pub mod EntryRefusal
 pub mod WalkRefusal
 pub mod BlockRefusal
+pub mod SlicesFit
+pub mod ListsFit
 pub mod Written
 pub mod WrittenBack
 pub mod FromRecord
