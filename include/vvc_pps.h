@@ -14,6 +14,40 @@
 extern "C" {
 #endif
 
+/* The numbers of `refused`. */
+enum {
+    VVC_ACCEPTED = 0,
+    VVC_NAL_TOO_SHORT = 1, /* NAL unit under 2 bytes */
+    VVC_NOT_A_PPS = 2, /* nal_unit_type not 16 */
+    VVC_TOO_MANY_BYTES = 3, /* NAL unit to be read, or bytes given to escaping or unescaping alone, over 65,535 bytes */
+    VVC_WORK_BUFFER_TOO_SHORT = 4, /* work buffer shorter than the NAL unit's length - 2; in unescaping, than the input */
+    VVC_TABLE_TOO_SHORT = 5, /* a lent table below its length; in writing also a count above that length, or extension bits outside the lent bytes */
+    VVC_UE_TOO_LONG = 6, /* ue(v) with 32 leading zeros */
+    VVC_PICTURE_SIZE_ZERO = 7, /* width or height 0 */
+    VVC_SUBPICS_OUT_OF_RANGE = 8, /* subpictures minus 1 over 999, or id length minus 1 over 15 */
+    VVC_CTU_SIZE_OUT_OF_RANGE = 9, /* pps_log2_ctu_size_minus5 over 2 */
+    VVC_TILE_COUNT_OUT_OF_RANGE = 10, /* coded explicit columns minus 1 at least 30 or rows minus 1 at least 990; in writing, none */
+    VVC_TILE_SIZE_OUT_OF_RANGE = 11, /* tile size minus 1 at least the picture's CTBs on that axis */
+    VVC_TILES_PAST_PICTURE = 12, /* explicit tile sizes sum past the picture */
+    VVC_TOO_MANY_TILES = 13, /* over 30 columns, or rows over 990 / columns */
+    VVC_TOO_MANY_SLICES = 14, /* pps_num_slices_in_pic_minus1 over 999 */
+    VVC_SLICE_PAST_GRID = 15, /* slice width or height passes the grid */
+    VVC_SPLIT_OUT_OF_RANGE = 16, /* split count or height minus 1 at least the row height, or their sum past it */
+    VVC_SPLIT_SLICES_PAST_COUNT = 17, /* more split slices than pps_num_slices_in_pic_minus1 leaves */
+    VVC_TILE_IDX_DELTA_OUT_OF_RANGE = 18, /* delta 0, magnitude at least the tile count, or leaving the grid */
+    VVC_WALK_LEAVES_GRID = 19, /* the walk without deltas leaves the grid with slices to come */
+    VVC_REF_IDX_OUT_OF_RANGE = 20, /* reference index over 14 */
+    VVC_OFFSET_OUT_OF_RANGE = 21, /* QP or deblocking offset outside -12 to 12, or QP list not 1 to 6 long */
+    VVC_NO_STOP_BIT = 22, /* no bit left for the stop bit */
+    VVC_WRONG_TRAILING_BITS = 23, /* stop bit 0 or alignment bit 1 */
+    VVC_ID_OUT_OF_RANGE = 24, /* writing: PPS id over 63 or SPS id over 15 */
+    VVC_NO_CODE = 25, /* 4294967295 as ue(v), -2147483648 as se(v) */
+    VVC_CONTRADICTS_SYNTAX = 26, /* writing: an optional part, an inferred value or the number of slice entries contradicts the syntax */
+    VVC_SUBPIC_IDS_WRONG = 27, /* writing: number of subpicture ids wrong, or an id too large for its length */
+    VVC_EXTENSION_ENDS_IN_ZERO = 28, /* writing: extension bits end in 0 */
+    VVC_OUTPUT_TOO_SHORT = 29, /* writing or escaping: output shorter than the bytes to be put there */
+};
+
 /* The number of bytes put at the front of an output. */
 typedef struct VvcByteCount {
     uint8_t refused;
