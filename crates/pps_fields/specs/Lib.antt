@@ -1,0 +1,4 @@
+pub mod FieldReads
+pub mod ListReads
+pub mod Sizes
+pub mod Examples
