@@ -91,6 +91,16 @@ typedef struct VvcSignedRead {
     VvcCursor next;
 } VvcSignedRead;
 
+/* Where writing stands. Start with vvc_sink. A refusal sticks; the bits put after it mean nothing. */
+typedef struct VvcSink {
+    bool escape;   /* bytes are escaped as they are made */
+    uint8_t zeros; /* the run of zero bytes behind, 2 for two and more */
+    size_t put;    /* the place of the next byte in the output, whether or not the output reaches so far */
+    uint8_t cur;   /* the byte that is being made */
+    uint8_t have;  /* how many bits of it there are */
+    uint8_t refused;
+} VvcSink;
+
 /* Takes the escape bytes out of a payload (H.266 7.4.2.1). Refusals: 3 for more than 65,535 bytes, 4 where `out` is shorter than the
  * payload. Only the bytes reported are changed. */
 VvcByteCount vvc_ebsp_to_rbsp(const uint8_t *ebsp, size_t ebsp_len, uint8_t *out, size_t out_len);
@@ -124,6 +134,33 @@ bool vvc_more_rbsp_data(const uint8_t *s, size_t s_len, size_t at);
 
 /* How many bits from bit `at` on are taken while more_rbsp_data() holds. */
 size_t vvc_extension_bits(const uint8_t *s, size_t s_len, size_t at);
+
+/* Bit writers into `out`, high bit first. Each takes a sink and gives the one behind what it put. It stores only inside `out` and counts
+ * always: the same calls over an output of 0 bytes give the exact number of bytes and any refusal, before anything is changed. */
+
+/* A sink that has put nothing yet, for an RBSP as it is or escaped (H.266 7.4.2.1). */
+VvcSink vvc_sink(bool escape);
+
+/* One bit, the low one of `bit`. */
+VvcSink vvc_put_bit(VvcSink w, uint8_t *out, size_t out_len, uint32_t bit);
+
+/* u(n): the `n` low bits of `value`; more than 32 are taken as 32. */
+VvcSink vvc_put_bits(VvcSink w, uint8_t *out, size_t out_len, uint32_t value, uint32_t n);
+
+/* ue(v). Refusal: 25 for 4294967295. */
+VvcSink vvc_put_ue(VvcSink w, uint8_t *out, size_t out_len, uint32_t v);
+
+/* se(v). Refusal: 25 for -2147483648. */
+VvcSink vvc_put_se(VvcSink w, uint8_t *out, size_t out_len, int32_t v);
+
+/* `count` bits of `bytes` from bit `from` on; bits past the end are 0. */
+VvcSink vvc_put_copy(VvcSink w, uint8_t *out, size_t out_len, const uint8_t *bytes, size_t bytes_len, size_t from, size_t count);
+
+/* rbsp_trailing_bits(), and the end of the payload. */
+VvcSink vvc_close(VvcSink w, uint8_t *out, size_t out_len);
+
+/* What the sink says of an output of `room` bytes: its refusal, 29 where they are fewer than the bytes put, or the number of these. */
+VvcByteCount vvc_sink_answer(VvcSink w, size_t room);
 
 #ifdef __cplusplus
 }

@@ -1,4 +1,7 @@
-//! What the calls cost. Times are the best of several rounds, in nanoseconds per call or per read.
+//! What the calls cost. Times are the best of several rounds, in nanoseconds per call, read or
+//! write.
+
+mod writing;
 
 use crate::ours::{self, Cursor};
 use crate::random::Random;
@@ -19,6 +22,7 @@ pub fn run() {
     escaping(&mut random);
     reading(&mut random);
     extension_bits();
+    writing::run(&mut random);
 }
 
 /// The time of a call in nanoseconds.

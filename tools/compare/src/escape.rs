@@ -15,7 +15,7 @@ pub const AREA: Area = Area {
 const MAX_BYTES: usize = 65_535;
 
 /// Bytes after the output that was lent.
-const GUARD: usize = 8;
+pub const GUARD: usize = 8;
 
 /// The bytes that the rules tell apart.
 const ALPHABET: [u8; 6] = [0, 1, 2, 3, 4, 0xFF];
@@ -54,7 +54,7 @@ struct Answer<'a> {
     out: Hex<'a>,
 }
 
-fn pattern(len: usize) -> Vec<u8> {
+pub fn pattern(len: usize) -> Vec<u8> {
     (0..len).map(|i| i as u8 ^ 0xA5).collect()
 }
 
@@ -86,11 +86,11 @@ fn compare(direction: &Direction, input: &[u8], put: &[u8], room: usize, tally: 
     });
 }
 
-/// Every string of up to 6 bytes over the alphabet, with every room up to one more than the most.
-fn exhaustive(tally: &mut Tally) {
+/// Every string of up to `longest` bytes over the alphabet.
+pub fn strings(longest: usize) -> Vec<Vec<u8>> {
     let mut strings = vec![vec![]];
     let mut of_last_length = 0..1;
-    for _ in 0..6 {
+    for _ in 0..longest {
         for i in of_last_length.clone() {
             for byte in ALPHABET {
                 strings.push([&strings[i][..], &[byte]].concat());
@@ -98,7 +98,12 @@ fn exhaustive(tally: &mut Tally) {
         }
         of_last_length = of_last_length.end..strings.len();
     }
-    for input in &strings {
+    strings
+}
+
+/// The strings of up to 6 bytes, with every room up to one more than the most.
+fn exhaustive(tally: &mut Tally) {
+    for input in &strings(6) {
         for direction in [&UNESCAPE, &ESCAPE] {
             let put = (direction.original)(input);
             for room in 0..=10 {
@@ -120,7 +125,7 @@ fn random(random: &mut Random, tally: &mut Tally) {
     compare(direction, &input, &put, room, tally);
 }
 
-fn bytes(random: &mut Random) -> Vec<u8> {
+pub fn bytes(random: &mut Random) -> Vec<u8> {
     let len = match random.below(1000) {
         0 => MAX_BYTES - 1 + random.below(3),
         1..5 => random.below(MAX_BYTES + 2),

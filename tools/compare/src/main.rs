@@ -9,12 +9,19 @@ mod ours;
 mod random;
 mod sizes;
 mod tally;
+mod writing;
 
 use random::Random;
 use std::process::ExitCode;
 use tally::{Area, Tally};
 
-const AREAS: &[Area] = &[escape::AREA, header::AREA, bits::AREA, sizes::AREA];
+const AREAS: &[Area] = &[
+    escape::AREA,
+    header::AREA,
+    bits::AREA,
+    sizes::AREA,
+    writing::AREA,
+];
 
 fn main() -> ExitCode {
     let arguments: Vec<String> = std::env::args().skip(1).collect();
@@ -32,7 +39,7 @@ fn main() -> ExitCode {
     }
 }
 
-/// The areas share the `count` random cases by their weights.
+/// The areas share the `count` random inputs by their weights.
 fn compare(count: u64, seed: u64) -> ExitCode {
     let weights: u64 = AREAS.iter().map(|area| area.weight).sum();
     let share = |weight: u64| (u128::from(count) * u128::from(weight) / u128::from(weights)) as u64;

@@ -37,6 +37,16 @@ impl Random {
         choices[self.below(choices.len())]
     }
 
+    /// A bit place: mostly up to `end`, else a little or very far behind.
+    pub fn place(&mut self, end: usize) -> usize {
+        match self.below(64) {
+            0 => usize::MAX >> (1 + self.below(32)),
+            1..4 => end + self.below(40),
+            4..24 => 0,
+            _ => self.below(end + 1),
+        }
+    }
+
     /// A number of any width from 0 to 32 bits, so that small and large ones are equally likely.
     pub fn value(&mut self) -> u32 {
         (self.next() >> 32 >> self.below(33)) as u32

@@ -5,10 +5,10 @@ use std::fmt::{self, Debug};
 
 pub struct Area {
     pub name: &'static str,
-    /// Its part of the random cases, beside the weights of the others.
+    /// Its part of the random inputs, beside the weights of the others.
     pub weight: u64,
     pub exhaustive: fn(&mut Tally),
-    /// Makes one random case.
+    /// Makes a random input and compares on it.
     pub random: fn(&mut Random, &mut Tally),
 }
 

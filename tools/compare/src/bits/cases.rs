@@ -50,7 +50,7 @@ pub fn random(random: &mut Random, tally: &mut Tally) {
     }
     let bytes = bytes(random);
     let start = Cursor {
-        at: place(random, bytes.len() * 8),
+        at: random.place(bytes.len() * 8),
         refused: if random.one_in(64) { random.byte() } else { 0 },
     };
     let reads: Vec<Read> = (0..1 + random.below(12))
@@ -87,16 +87,6 @@ fn runs(random: &mut Random, len: usize) -> Vec<u8> {
         at += 1 + random.below(41);
     }
     bytes
-}
-
-/// Mostly within the bytes, else a little or very far behind them.
-fn place(random: &mut Random, end: usize) -> usize {
-    match random.below(64) {
-        0 => usize::MAX >> (1 + random.below(32)),
-        1..4 => end + random.below(40),
-        4..24 => 0,
-        _ => random.below(end + 1),
-    }
 }
 
 fn read(random: &mut Random, len: usize) -> Read {
