@@ -72,12 +72,14 @@ holding w cur n =
     let s = w .sink in
     sinkOver (record { escape = s .escape; zeros = s .zeros; put = s .put; cur = cur; have = n; refused = s .refused }) (w .out)
 
+-- one bit: it joins the byte that is being made, and the eighth makes it whole
 unfoldable pub putBit : Writing → ℕ → Writing
 putBit w b =
     cond (ltb (place (w .sink)) 7)
     (holding w (joined (w .sink .cur) b) (place (w .sink) + 1))
     (putByte w (joined (w .sink .cur) b))
 
+-- bits, one behind the other
 unfoldable pub feed : Writing → List ℕ → Writing
 feed w [] = w
 feed w (b ∷ bs) = feed (putBit w b) bs

@@ -6,6 +6,7 @@ ghost use Rattle.pps_syntax.specs.Rbsp.{beforeFields, behindExtension};
 ghost use Rattle.pps_read.specs.Ends.{extensionAt};
 
 mod clear;
+mod lent;
 mod parts;
 
 use bit_reader::Cursor;
