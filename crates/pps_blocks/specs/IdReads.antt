@@ -10,9 +10,8 @@ use lib.Seq.{sets}
 use borrow.Author.Tests.{leb-true, eqb-true, eqb-false}
 use Rattle.bit_reader.specs.declared.Cursor.{Cursor}
 use Rattle.bit_reader.specs.Laws.{u-stays}
-use Rattle.pps_record.specs.declared.VvcPpsSubpicIdMapping.{VvcPpsSubpicIdMapping}
 use Rattle.pps_syntax.specs.SubpicIds.{SubpicIds}
-use Rattle.syntax.specs.Element.{Parsed, parsed, Element}
+use Rattle.syntax.specs.Element.{Parsed, parsed}
 use Rattle.syntax.specs.Elements.{bitsParsed, u, orElse}
 use Rattle.syntax.specs.Lists.{many, none}
 use Rattle.pps_syntax.specs.Record.{mappingOf}
@@ -35,16 +34,16 @@ id-bits count len s c held = split (eqb (c .refused) 0) refl
         ap (λ (n : ℕ). many count (u n 27) 27 .read s c) m
     split false e = many-refused count (min (len + 1) 32) s c (eqb-false (c .refused) 0 e) ∙ sym (many-refused count (suc len) s c (eqb-false (c .refused) 0 e))
 
--- the ids of a mapping
-pub ids-coded : (on : Bool) (num len count : ℕ) (s : List ℕ) (c : Cursor) → count ≡ cond on (num + 1) 0 → (c .refused ≡ 0 → leb len 15 ≡ true)
-    → many count (u (min (len + 1) 32) 27) 27 .read s c ≡ orElse on (many (suc num) (u (suc len) 27) 27) (none 0) .read s c
-ids-coded on num len count s c e held = id-bits count len s c held ∙ many-counted on num count (u (suc len) 27) 27 0 s c e
+-- the ids of a mapping, and the cursor behind them
+pub ids-coded : (on : Bool) (num len count : ℕ) (s : List ℕ) (c d : Cursor) → count ≡ cond on (num + 1) 0 → (c .refused ≡ 0 → leb len 15 ≡ true)
+    → d ≡ many count (u (min (len + 1) 32) 27) 27 .read s c .next
+    → parsed (many count (u (min (len + 1) 32) 27) 27 .read s c .value) d ≡ orElse on (many (suc num) (u (suc len) 27) 27) (none 0) .read s c
+ids-coded on num len count s c d e held q = rw q (id-bits count len s c held ∙ many-counted on num count (u (suc len) 27) 27 0 s c e)
 
 -- the mapping, its ids in the table
-pub mapping-made : {present num len n : ℕ} {d : Cursor} {t : List ℕ} (t₀ : List ℕ) (ids : Parsed (List ℕ)) {x : Parsed SubpicIds}
-    → parsed (record { present = present; «pps_num_subpics_minus1» = num; «pps_subpic_id_len_minus1» = len; «pps_subpic_id» = ids .value }) (ids .next) ≡ x
-    → (d ≡ ids .next) × ((n ≡ length (ids .value)) × (t ≡ sets t₀ 0 (ids .value)))
+pub mapping-made : {present num len n : ℕ} {d : Cursor} {t : List ℕ} (t₀ ids : List ℕ) {x : Parsed SubpicIds}
+    → parsed (record { present = present; «pps_num_subpics_minus1» = num; «pps_subpic_id_len_minus1» = len; «pps_subpic_id» = ids }) d ≡ x
+    → (n ≡ length ids) × (t ≡ sets t₀ 0 ids)
     → (record { present = present; «pps_num_subpics_minus1» = num; «pps_subpic_id_len_minus1» = len; «num_subpic_ids» = n } ≡ mappingOf (x .value))
     × ((d ≡ x .next) × (t ≡ sets t₀ 0 (x .value .«pps_subpic_id»)))
-unfolding mappingOf
-mapping-made t₀ ids e f = rw (← e) (rw (f .1 .0), (f .0, f .1 .1))
+mapping-made t₀ ids e f = rw (← e) (rw (f .0), (refl, f .1))

@@ -1,22 +1,31 @@
 -- What the readers of the chroma block give, as its description has it.
-use Prim.Native.Nat.{ℕ}
+use Prim.Native.Nat.{ℕ, suc, _+_}
 use mathlib.Core.List.{List, map}
-use mathlib.Core.Path.{_≡_}
+use mathlib.Core.Path.{_≡_, refl}
+use mathlib.Core.Bool.{Bool, cond}
 use lib.IntN.{ℤ}
 use lib.ListN.{length}
 use lib.Seq.{sets}
 use Rattle.bit_reader.specs.declared.Cursor.{Cursor}
-use Rattle.pps_record.specs.declared.VvcPpsChromaToolOffsets.{VvcPpsChromaToolOffsets}
-use Rattle.pps_syntax.specs.Chroma.{Triple, ChromaToolOffsets}
+use Rattle.pps_syntax.specs.Chroma.{Triple, tripleElement, ChromaToolOffsets}
 use Rattle.syntax.specs.Element.{Parsed, parsed}
+use Rattle.syntax.specs.Elements.{orElse}
+use Rattle.syntax.specs.Lists.{many, none}
+use Rattle.pps_fields.specs.ListReads.{many-counted}
 use Rattle.pps_syntax.specs.Record.{rowOf, chromaOf}
 use Rattle.pps_blocks.specs.declared.chroma.TripleRead.{TripleRead}
 
+-- a triple as its reader gives it
 abbrev pub tripleOf : TripleRead → Triple
 tripleOf r = record { cb = r .cb; cr = r .cr; joint = r .joint }
 
+-- the triples of the list, and the cursor behind them
+pub triples-coded : (on withJoint : Bool) (n count : ℕ) (s : List ℕ) (c d : Cursor) → count ≡ cond on (n + 1) 0 → d ≡ many count (tripleElement withJoint) 21 .read s c .next
+    → parsed (many count (tripleElement withJoint) 21 .read s c .value) d ≡ orElse on (many (suc n) (tripleElement withJoint) 21) (none 0) .read s c
+triples-coded on withJoint n count s c d e q = rw q (many-counted on n count (tripleElement withJoint) 21 0 s c e)
+
 -- the block, its triples in the table
-pub chroma-made : {present joint slice enabled n : ℕ} {cb cr value : ℤ} {d : Cursor} {t : List (List ℤ)} (t₀ : List (List ℤ)) (list : Parsed (List Triple)) {x : Parsed ChromaToolOffsets}
+pub chroma-made : {present joint slice enabled n : ℕ} {cb cr value : ℤ} {d : Cursor} {t : List (List ℤ)} (t₀ : List (List ℤ)) (list : List Triple) {x : Parsed ChromaToolOffsets}
     → parsed (record {
       present = present;
       «pps_cb_qp_offset» = cb;
@@ -25,9 +34,9 @@ pub chroma-made : {present joint slice enabled n : ℕ} {cb cr value : ℤ} {d :
       «pps_joint_cbcr_qp_offset_value» = value;
       «pps_slice_chroma_qp_offsets_present_flag» = slice;
       «pps_cu_chroma_qp_offset_list_enabled_flag» = enabled;
-      list = list .value;
-    }) (list .next) ≡ x
-    → (d ≡ list .next) × ((n ≡ length (list .value)) × (t ≡ sets t₀ 0 (map rowOf (list .value))))
+      list = list;
+    }) d ≡ x
+    → (n ≡ length list) × (t ≡ sets t₀ 0 (map rowOf list))
     → (record {
       present = present;
       «pps_cb_qp_offset» = cb;
@@ -39,5 +48,4 @@ pub chroma-made : {present joint slice enabled n : ℕ} {cb cr value : ℤ} {d :
       «cu_chroma_qp_offset_list_len» = n;
     } ≡ chromaOf (x .value))
     × ((d ≡ x .next) × (t ≡ sets t₀ 0 (map rowOf (x .value .list))))
-unfolding chromaOf
-chroma-made t₀ list e f = rw (← e) (rw (f .1 .0), (f .0, f .1 .1))
+chroma-made t₀ list e f = rw (← e) (rw (f .0), (refl, f .1))

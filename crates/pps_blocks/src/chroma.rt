@@ -1,5 +1,5 @@
 // The chroma tool offsets block. The triples of its list go into six arrays of three, beside the record.
-ghost use mathlib.Core.List.{[], _∷_, map};
+ghost use mathlib.Core.List.{map};
 ghost use mathlib.Core.Path.{_≡_};
 ghost use lib.ListN.{length, set};
 ghost use lib.Seq.{sets};

@@ -18,7 +18,7 @@ use Rattle.syntax.specs.Element.{parsed}
 use Rattle.syntax.specs.Elements.{bitsParsed, signedParsed, flag, ue, se, limited, absent, sameℕ, sameℤ, orElse, or-true, or-false}
 use Rattle.syntax.specs.ReadSteps.{byteParsed, byte-reads, byte-or, bits-or, signed-or}
 
--- a number that was read, with a test of it: refused with n where it fails
+-- a number that was read, with a test of it (the ranges of H.266 7.4.3.5): refused with n, a number of document 01, where it fails
 unfoldable pub tested : (ℕ → Bool) → ℕ → BitsRead → BitsRead
 tested ok n r = record { value = r .value; next = demanded (ok (r .value)) n (r .next) }
 
@@ -83,7 +83,7 @@ module _ (s : List ℕ) (c : Cursor) where
       either true = ue-small s c
       either false = p
 
-  -- the same where a description has the number first, and its test behind it
+  -- where a description has the number first and its test behind it: the number, and then the test
   pub tested-number : (on : Bool) (ok : ℕ → Bool) (n value k : ℕ) {r : BitsRead} → r ≡ bitsOr on (tested ok n (ueRead s c)) value c
       → parsed (r .value) (bitsOr on (ueRead s c) value c .next) ≡ orElse on ue (absent sameℕ value k) .read s c
   unfolding bitsOr tested orElse
@@ -102,7 +102,7 @@ module _ (s : List ℕ) (c : Cursor) where
       either true = refl
       either false = sym (demanded-true (ok value) n c p)
 
-  -- offsets
+  -- offsets of −12 to 12
   pub offset-coded : (on : Bool) (inferred : ℤ) (r : SignedRead) (t : Bool) (d : Cursor) → on ≡ true → r ≡ seRead s c → t ≡ inRange (r .value) → d ≡ demanded t 21 (r .next)
       → parsed (r .value) d ≡ offsetOr on inferred .read s c
   offset-coded on inferred r t d o e p q = rw (or-true on offset (absent sameℤ inferred 0) o, q, p, e)

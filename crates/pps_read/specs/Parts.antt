@@ -54,7 +54,6 @@ front-made t₀ p e f = rw (← e) (rw (f .0, f .1 .0), f .1 .1)
 -- the deblocking block asks whether there is a chroma block, in the record as in the description
 pub behind-chroma : (parted : Bool) (s : List ℕ) (p : Parsed ChromaToolOffsets) {t : VvcPpsChromaToolOffsets} {d : Cursor} {x : Parsed VvcPpsDeblocking} → t ≡ chromaOf (p .value) → d ≡ p .next
     → x ≡ parse (deblocking parted (isSet (t .present))) s d → x ≡ parse (deblocking parted (isSet (p .value .present))) s (p .next)
-unfolding chromaOf
 behind-chroma parted s p e f g = g ∙ rw (e, f) refl
 
 pub back-made : {r : References} {t : VvcPpsChromaToolOffsets} {b : VvcPpsDeblocking} {h : PictureHeaderFlags} {n d : Cursor} {l : List (List ℤ)} (l₀ : List (List ℤ)) (p : Parsed ChromaToolOffsets) {x : Parsed Back}

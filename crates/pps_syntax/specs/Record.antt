@@ -13,7 +13,7 @@ use Rattle.pps_syntax.specs.Chroma.{Triple, ChromaToolOffsets}
 use Rattle.pps_syntax.specs.Pps.{Front, Back, Pps}
 
 -- ---- blocks: a list is its length, the table holds it
-unfoldable pub mappingOf : SubpicIds → VvcPpsSubpicIdMapping
+abbrev pub mappingOf : SubpicIds → VvcPpsSubpicIdMapping
 mappingOf m =
     record {
       present = m .present;
@@ -22,7 +22,7 @@ mappingOf m =
       «num_subpic_ids» = length (m .«pps_subpic_id»);
     }
 
-unfoldable pub chromaOf : ChromaToolOffsets → VvcPpsChromaToolOffsets
+abbrev pub chromaOf : ChromaToolOffsets → VvcPpsChromaToolOffsets
 chromaOf c =
     record {
       present = c .present;
@@ -36,7 +36,7 @@ chromaOf c =
     }
 
 -- a triple as a row of three
-unfoldable pub rowOf : Triple → List ℤ
+abbrev pub rowOf : Triple → List ℤ
 rowOf t = t .cb ∷ t .cr ∷ t .joint ∷ []
 
 -- the partition block, with its presence flag; zeros where there is none

@@ -6,10 +6,9 @@ use mir.Facts.{toZ-ofZ}
 use mir.Syntax.{w32}
 use mir.Val.{SFits}
 use Rattle.syntax.specs.ReadSteps.{reads-done, reads, reads-test, reads-past}
-use Rattle.pps_syntax.specs.Chroma.{tripleElement, chroma}
+use Rattle.pps_syntax.specs.Chroma.{chroma}
 use Rattle.pps_fields.specs.FieldReads.{byte-field, flag-field, tested-number, tested-behind, tested-small}
-use Rattle.pps_fields.specs.ListReads.{many-counted}
-use Rattle.pps_blocks.specs.Triples.{chroma-made}
+use Rattle.pps_blocks.specs.Triples.{triples-coded, chroma-made}
 use borrow.Author.Needs.{needs}
 use Rattle.pps_blocks.proofs.chroma.read_chroma.Statement.{statement}
 use Rattle.pps_blocks.proofs.chroma.read_chroma.Tie as tie
@@ -26,7 +25,7 @@ returns c =
     rw (toZ-ofZ cb, toZ-ofZ cr, toZ-ofZ value)
     (chroma-made _ _
     (reads-done _ _ _
-    ∙ reads _ _ _ _ (many-counted _ _ _ (tripleElement _) 21 0 _ _ (c .before .before .before .before .before .before .counted .ensures))
+    ∙ reads _ _ _ _ (triples-coded _ _ _ _ _ _ _ (c .before .before .before .before .before .before .counted .ensures) (c .before .before .before .before .read-triples .ensures .0))
     ∙ reads-test _ _ _ _ _ _ (tested-behind _ _ _ (λ v. leb v 5) 21 0 refl (c .before .before .before .before .before .before .before .ue-at-most .ensures))
     ∙ reads _ _ _ _ (tested-number _ _ _ (λ v. leb v 5) 21 0 0 (c .before .before .before .before .before .before .before .ue-at-most .ensures))
     ∙ reads-past _ _ _ _ _
@@ -37,7 +36,7 @@ returns c =
     ∙ reads _ _ _ _ (c .before .before .before .before .before .before .before .before .before .before .before .before .before .before .offset-or2 .ensures)
     ∙ reads _ _ _ _ (c .before .before .before .before .before .before .before .before .before .before .before .before .before .before .before .offset-or .ensures)
     ∙ reads _ _ _ _ (byte-field _ _ 1 (c .before .before .before .before .before .before .before .before .before .before .before .before .before .before .before .before .before .flag .ensures)))
-    (c .before .before .before .before .read-triples .ensures))
+    (c .before .before .before .before .read-triples .ensures .1))
 
 pub read-chroma-spec : {M : Type 1} → statement M
 read-chroma-spec =

@@ -4,7 +4,6 @@ use lib.Seq.{set-out}
 use mir.Facts.{toZ-ofZ}
 use mir.Syntax.{w32}
 use mir.Val.{SFits}
-use Rattle.pps_syntax.specs.Record.{rowOf}
 use borrow.Author.Needs.{needs}
 use Rattle.pps_blocks.proofs.chroma.store.Statement.{statement}
 use Rattle.pps_blocks.proofs.chroma.store.Tie as tie
@@ -22,7 +21,6 @@ same-length : tie.Need-same-length
 same-length c = search needs
 
 returns-2 : tie.Need-returns-2
-unfolding rowOf
 returns-2 c =
     let cb : SFits w32 (c .before .before .args .t .cb) = search needs in
     let cr : SFits w32 (c .before .before .args .t .cr) = search needs in

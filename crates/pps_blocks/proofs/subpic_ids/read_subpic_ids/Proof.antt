@@ -25,11 +25,11 @@ returns c =
     let held = tested-held _ _ _ (λ v. leb v 15) 8 0 (lit< tt) refl (c .before .before .before .before .before .before .before .ue-at-most2 .ensures) in
     mapping-made _ _
     (reads-done _ _ _
-    ∙ reads _ _ _ _ (ids-coded _ _ _ _ _ _ (c .before .before .before .before .before .before .counted .ensures) held)
+    ∙ reads _ _ _ _ (ids-coded _ _ _ _ _ _ _ (c .before .before .before .before .before .before .counted .ensures) held (c .before .before .before .read-ids .ensures .0))
     ∙ reads _ _ _ _ (tested-or _ _ _ (λ v. leb v 15) 8 (lit< tt) 0 0 (c .before .before .before .before .before .before .before .ue-at-most2 .ensures))
     ∙ reads _ _ _ _ (tested-or _ _ _ (λ v. leb v 999) 8 (lit< tt) 0 _ (c .before .before .before .before .before .before .before .before .ue-at-most .ensures))
     ∙ reads _ _ _ _ (byte-field _ _ 1 (c .before .before .before .before .before .before .before .before .before .before .flag .ensures)))
-    (c .before .before .before .read-ids .ensures)
+    (c .before .before .before .read-ids .ensures .1)
 
 pub read-subpic-ids-spec : {M : Type 1} → statement M
 read-subpic-ids-spec =

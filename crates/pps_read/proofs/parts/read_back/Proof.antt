@@ -1,6 +1,9 @@
 -- One step of the description for each group, the last first.
 use mathlib.Core.Path.{_∙_, refl}
+use denote.Ref.{now}
 use Rattle.syntax.specs.ReadSteps.{reads-done, reads}
+use Rattle.syntax.specs.Syntax.{parse}
+use Rattle.pps_syntax.specs.Chroma.{chroma}
 use Rattle.pps_syntax.specs.Pps.{back}
 use Rattle.pps_read.specs.Parts.{back-made, behind-chroma}
 use borrow.Author.Needs.{needs}
@@ -23,10 +26,11 @@ returns : tie.Need-returns
 unfolding back
 returns c =
     let t = c .before .before .before .before .before .before .before .before .before .read-chroma .ensures in
-    back-made _ _
+    let p = parse chroma (now (c .before .before .before .before .before .before .before .before .before .before .before .before .before .before .args .s)) (c .before .before .before .before .before .before .before .before .before .before .before .before .read-references .result .next) in
+    back-made _ p
     (reads-done _ _ _
     ∙ reads _ _ _ _ (c .before .before .read-picture-header .ensures)
-    ∙ reads _ _ _ _ (behind-chroma _ _ _ (t .0) (t .1 .0) (c .before .before .before .before .before .before .read-deblocking .ensures))
+    ∙ reads _ _ _ _ (behind-chroma _ _ p (t .0) (t .1 .0) (c .before .before .before .before .before .before .read-deblocking .ensures))
     ∙ reads _ _ _ _ refl
     ∙ reads _ _ _ _ (c .before .before .before .before .before .before .before .before .before .before .before .before .read-references .ensures))
     t
