@@ -1,5 +1,5 @@
 -- What the readers give: u(n), ue(v) and se(v) of H.266 7.2 and 9.2, and rbsp_trailing_bits() of 7.3.2.
--- Reading past the end gives 0 bits, and the place stays at the end (document 01).
+-- Reading past the end gives 0 bits, and the place stays at the end (docs/BEHAVIOUR.md).
 use Prim.Native.Nat.{ℕ, zero, suc, _+_, _-_, _*_, _/_, _%_, _^_, min, max}
 use mathlib.Core.List.{List}
 use mathlib.Core.Bool.{Bool, true, false, cond}

@@ -1,5 +1,5 @@
 -- Two runs make a writer that changes nothing when it refuses: one over an empty output, which counts and finds any refusal, and one that
--- writes. Here for any list of bytes; 29 is document 01's number for an output shorter than the bytes.
+-- writes. Here for any list of bytes; 29 is the number for an output shorter than the bytes.
 use Prim.Native.Nat.{ℕ, _≤_, _<_, _^_, min}
 use native.Mathlib.Omega.{arith}
 use mathlib.Core.Bool.{Bool, true, false, cond}

@@ -1,4 +1,4 @@
--- The size question of document 01: the bits of the ue(v) code of a value, or 25.
+-- The size question: the bits of the ue(v) code of a value, or 25.
 use Prim.Native.Nat.{ℕ, _<_}
 use mathlib.Core.Path.{_≡_, ap}
 use native.Mathlib.Omega.{arith}

@@ -1,4 +1,4 @@
--- What escaping and unescaping answer, and what they leave in the lent output. The numbers of refusals are those that document 01 lists.
+-- What escaping and unescaping answer, and what they leave in the lent output. The numbers of refusals are those that docs/BEHAVIOUR.md lists.
 use Prim.Native.Nat.{ℕ, _≤_, _<_}
 use mathlib.Core.Bool.{cond}
 use mathlib.Core.List.{List}

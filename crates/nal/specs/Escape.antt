@@ -43,7 +43,7 @@ unfoldable pub escapeFrom : ℕ → List ℕ → List ℕ
 escapeFrom z [] = escapeEnd z
 escapeFrom z (b ∷ bs) = escapeByte z b ++ escapeFrom (escapeRun z b) bs
 
--- The payload of an RBSP (the Rust's rbsp_to_ebsp). Difference from the standard, as in document 01 and the Rust: 03 is appended
+-- The payload of an RBSP (the Rust's rbsp_to_ebsp). Difference from the standard, as in the Rust: 03 is appended
 -- after two final zeros only; 7.4.2.1 appends it after a single final 00 too.
 unfoldable pub escape : List ℕ → List ℕ
 escape rbsp = escapeFrom 0 rbsp

@@ -7,7 +7,7 @@ ghost use Rattle.tables.specs.Tables.{over};
 ghost use Rattle.nal.specs.Escape.{zeroRun, isEscape, needsEscape, escape};
 ghost use Rattle.nal.specs.Answers.{unescapeAnswer, unescapeOut, escapeAnswer, escapeOut};
 
-// How many bytes were put at the front of the output, or the number of a refusal as document 01 lists it.
+// How many bytes were put at the front of the output, or the number of a refusal as docs/BEHAVIOUR.md lists it.
 pub enum ByteCount {
     Bytes(usize),
     Refused(u8),

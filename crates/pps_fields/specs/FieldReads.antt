@@ -18,7 +18,7 @@ use Rattle.syntax.specs.Element.{parsed}
 use Rattle.syntax.specs.Elements.{bitsParsed, signedParsed, flag, ue, se, limited, absent, sameℕ, sameℤ, orElse, or-true, or-false}
 use Rattle.syntax.specs.ReadSteps.{byteParsed, byte-reads, byte-or, bits-or, signed-or}
 
--- a number that was read, with a test of it (the ranges of H.266 7.4.3.5): refused with n, a number of document 01, where it fails
+-- a number that was read, with a test of it (the ranges of H.266 7.4.3.5): refused with n where it fails
 unfoldable pub tested : (ℕ → Bool) → ℕ → BitsRead → BitsRead
 tested ok n r = record { value = r .value; next = demanded (ok (r .value)) n (r .next) }
 

@@ -1,4 +1,4 @@
--- What reading leaves in the lent tables, and what it answers (document 01): unchanged after 1 to 5, zero throughout after 6 to 23, and after an acceptance the entries in use,
+-- What reading leaves in the lent tables, and what it answers (docs/BEHAVIOUR.md): unchanged after 1 to 5, zero throughout after 6 to 23, and after an acceptance the entries in use,
 -- then zeros.
 use Prim.Native.Nat.{ℕ}
 use mathlib.Core.List.{List, [], _∷_, map}

@@ -1,4 +1,4 @@
--- pic_width_in_ctbs and pic_height_in_ctbs of document 01.
+-- pic_width_in_ctbs and pic_height_in_ctbs (two differences from H.266 and one from the Rust: docs/DIFFERENCES.md).
 use Prim.Native.Nat.{ℕ, _<_, _≤_}
 use mathlib.Core.Path.{_≡_, ap}
 use mathlib.Core.Bool.{cond}

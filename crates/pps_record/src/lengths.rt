@@ -1,4 +1,4 @@
-// The stated lengths of the tables that a caller lends (document 01). A table may be longer; a shorter one is refused with 5.
+// The stated lengths of the tables that a caller lends (docs/BEHAVIOUR.md). A table may be longer; a shorter one is refused with 5.
 
 pub const SUBPIC_IDS: usize = 1000;
 

@@ -1,4 +1,4 @@
-// The numbers with which a function refuses, by name (document 01). Contracts show the number itself, as document 01's table does.
+// The numbers with which a function refuses, by name (docs/BEHAVIOUR.md). Contracts show the number itself, as the table there does.
 
 // NAL unit under 2 bytes.
 pub const NAL_TOO_SHORT: u8 = 1;

@@ -1,4 +1,4 @@
--- Sets of document 01's desk that are read, computed: one table, one theorem.
+-- Small sets that are read, computed: one table, one theorem.
 use Prim.Native.Nat.{ℕ}
 use mathlib.Core.Path.{_≡_, refl}
 use mathlib.Core.List.{List, [], _∷_, _++_, map}
@@ -40,7 +40,7 @@ record Example : Type 0 where
 abbrev example : List ℕ → Outcome → Example
 example nal w = record { nal = nal; wanted = w }
 
--- the desk's first set, with another last byte
+-- the first set, with another last byte
 abbrev desk : List ℕ → List ℕ
 desk last = 0x00 ∷ 0x81 ∷ 0x00 ∷ 0x09 ∷ 0x09 ∷ 0x84 ∷ last
 

@@ -1,4 +1,4 @@
--- The set that a record and its lent tables say: what writing writes and the questions ask about. Counts of an absent part are taken as 0 (document 01).
+-- The set that a record and its lent tables say: what writing writes and the questions ask about. Counts of an absent part are taken as 0 (docs/BEHAVIOUR.md).
 use Prim.Native.Nat.{ℕ, _+_, _*_}
 use mathlib.Core.List.{List, [], _∷_, _++_, map}
 use mathlib.Core.Bool.{Bool, cond, not, _&&_, _||_}

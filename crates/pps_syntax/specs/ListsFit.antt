@@ -1,4 +1,4 @@
--- The lists of a set that was read fit the tables that are lent for them, of the lengths that document 01 states: no entry that the record counts is left out.
+-- The lists of a set that was read fit the tables that are lent for them, of the lengths that docs/BEHAVIOUR.md states: no entry that the record counts is left out.
 use Prim.Native.Nat.{ℕ, suc, _-_, _≤_, _<_}
 use mathlib.Core.Path.{_≡_}
 use mathlib.Core.List.{List, [], _∷_}

@@ -46,7 +46,7 @@ readRbsp rbsp =
     let n : ℕ = extensionFor rbsp p in
     answered (p .value) (p .next .at) n (trailingRead rbsp (behindExtension (p .next) n))
 
--- The tests before the first field, in document 01's order: a NAL unit of 2 bytes (1), of type 16 (2), of at most 65,535 bytes (3); a work buffer (4) and tables (5) that are long enough
+-- The tests before the first field, in docs/BEHAVIOUR.md's order: a NAL unit of 2 bytes (1), of type 16 (2), of at most 65,535 bytes (3); a work buffer (4) and tables (5) that are long enough
 unfoldable pub beforeFields : List ℕ → ℕ → Bool → ℕ
 beforeFields nal workLength tablesLong =
     cond (ltb (length nal) 2) 1

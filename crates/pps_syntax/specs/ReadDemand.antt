@@ -1,4 +1,4 @@
--- What document 01 demands of tiles and slices, of every set that was read: "Every block of an accepted partitioned picture lies in exactly one tile; without deltas no
+-- What is demanded of tiles and slices, of every set that was read: "Every block of an accepted partitioned picture lies in exactly one tile; without deltas no
 -- block lies in two slices; the cover check says whole, gap or double exactly when that is so; the plan reports exactly these slices."
 use Prim.Native.Nat.{ℕ, _+_, _≤_}
 use mathlib.Core.Path.{_≡_, _∙_}

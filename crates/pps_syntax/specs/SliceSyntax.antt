@@ -74,7 +74,7 @@ module _ (g : Grid) (deltas : Bool) (N : ℕ) where
     let split = splitCoded width height row
     present ← presence split 26 for (λ r. r .splitPresent)
     count ← orElse split (limited ue (λ v. ltb v row) 16 (lit< tt)) (absent sameℕ 0 0) for (λ r. length (r .«pps_exp_slice_height_in_ctus_minus1»))
-    -- document 01's addition to the order of reading
+    -- earlier than the Rust (docs/DIFFERENCES.md)
     onReading (not split || leb count (N - k .slice + 1)) 17 (lit< tt) do
       heights ← orElse split (many count (limited ue (λ v. ltb v row) 16 (lit< tt)) 26) (none 0) for (λ r. r .«pps_exp_slice_height_in_ctus_minus1»)
       onBoth (not split || leb (sum (explicitSizes heights)) row) 16 (lit< tt)

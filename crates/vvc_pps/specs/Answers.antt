@@ -1,4 +1,4 @@
--- Document 01's number, 0 where nothing is refused, and the values, for each case of an answer.
+-- The number of a refusal, 0 where nothing is refused, and the values, for each case of an answer.
 use Rattle.code_length.specs.declared.UeSize.{UeSize}
 use Rattle.code_length.specs.declared.UeSize.the-variants as size
 use Rattle.h266.specs.declared.NalHeader.{NalHeader}
