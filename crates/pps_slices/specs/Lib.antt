@@ -1,0 +1,10 @@
+pub mod SizeReads
+pub mod EntryReads
+pub mod EntrySteps
+pub mod EntryMade
+pub mod Moves
+pub mod Entries
+pub mod Loop
+pub mod Limits
+pub mod Stuck
+pub mod Held

@@ -1,0 +1,59 @@
+// An entry into its place of six tables. A store outside a table does nothing.
+ghost use mathlib.Core.Path.{_≡_};
+ghost use lib.ListN.{set};
+use super::entry::RectSliceRead;
+
+pub fn put_u32(table: &mut [u32], i: u32, v: u32)
+    ensures { λ _. ⌜ now (table .exit) ≡ set (now (table .entry)) i v ⌝ }
+{
+    let k = i as usize;
+    if table.len() <= k {
+        return;
+    }
+    table[k] = v;
+}
+
+pub fn put_u8(table: &mut [u8], i: u32, v: u8)
+    ensures { λ _. ⌜ now (table .exit) ≡ set (now (table .entry)) i v ⌝ }
+{
+    let k = i as usize;
+    if table.len() <= k {
+        return;
+    }
+    table[k] = v;
+}
+
+pub fn put_i32(table: &mut [i32], i: u32, v: i32)
+    ensures { λ _. ⌜ now (table .exit) ≡ set (now (table .entry)) i v ⌝ }
+{
+    let k = i as usize;
+    if table.len() <= k {
+        return;
+    }
+    table[k] = v;
+}
+
+pub fn put_slice(
+    r: RectSliceRead,
+    i: u32,
+    widths: &mut [u32],
+    heights: &mut [u32],
+    split_present: &mut [u8],
+    split_counts: &mut [u32],
+    delta_present: &mut [u8],
+    deltas: &mut [i32],
+)
+    ensures widths { λ _. ⌜ now (widths .exit) ≡ set (now (widths .entry)) i (r .width) ⌝ }
+    ensures heights { λ _. ⌜ now (heights .exit) ≡ set (now (heights .entry)) i (r .height) ⌝ }
+    ensures split_present { λ _. ⌜ now («split_present» .exit) ≡ set (now («split_present» .entry)) i (r .«split_present») ⌝ }
+    ensures split_counts { λ _. ⌜ now («split_counts» .exit) ≡ set (now («split_counts» .entry)) i (r .«split_count») ⌝ }
+    ensures delta_present { λ _. ⌜ now («delta_present» .exit) ≡ set (now («delta_present» .entry)) i (r .«delta_present») ⌝ }
+    ensures deltas { λ _. ⌜ now (deltas .exit) ≡ set (now (deltas .entry)) i (r .delta) ⌝ }
+{
+    put_u32(widths, i, r.width);
+    put_u32(heights, i, r.height);
+    put_u8(split_present, i, r.split_present);
+    put_u32(split_counts, i, r.split_count);
+    put_u8(delta_present, i, r.delta_present);
+    put_i32(deltas, i, r.delta);
+}
