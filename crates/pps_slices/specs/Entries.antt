@@ -2,7 +2,7 @@
 use Prim.Native.Nat.{ℕ, suc, _+_, _-_, _*_, _≤_, _<_, min}
 use mathlib.Core.Path.{_≡_, refl, ap, subst, _∙_}
 use mathlib.Core.List.{List, [], _∷_}
-use mathlib.Core.Bool.{Bool, true, false, cond, _&&_}
+use mathlib.Core.Bool.{Bool, true, false, _&&_}
 use native.Mathlib.Omega.{arith}
 use lib.Dec.{ltb}
 use lib.ListN.{length}
@@ -12,7 +12,7 @@ use Rattle.bit_reader.specs.declared.Cursor.{Cursor}
 use Rattle.bit_reader.specs.declared.BitsRead.{BitsRead}
 use Rattle.partition.specs.Entry.{Position, tileRowHeight, splitCoded, numSlicesInTile, splitHeights, lastSliceOf, nextTile, nextPosition}
 use Rattle.partition.specs.Grid.{Grid, columns, rows, tiles}
-use Rattle.partition.specs.Sizes.{axisSizes, length-sizes}
+use Rattle.partition.specs.Sizes.{length-sizes}
 use Rattle.partition.specs.Walk.{rowHeightOf, onward}
 use Rattle.slice_loop.specs.declared.SliceLoopCtx.{SliceLoopCtx}
 use Rattle.slice_loop.specs.declared.SliceIdx.{SliceIdx}
@@ -20,7 +20,6 @@ use Rattle.syntax.specs.Element.{Parsed, parsed}
 use Rattle.syntax.specs.Elements.{oneIf}
 use Rattle.syntax.specs.Syntax.{parse}
 use Rattle.pps_syntax.specs.SliceSyntax.{RectSlice, entryOf, rectSlice, sliceMove}
-use Rattle.pps_slices.specs.declared.parts.SplitRead.{SplitRead}
 use Rattle.pps_slices.specs.declared.parts.MoveRead.{MoveRead}
 use Rattle.pps_slices.specs.declared.entry.RectSliceRead.{RectSliceRead}
 use Rattle.pps_slices.specs.EntryReads.{widthRead, heightRead, heightsRead, lastOf, heightsTested, deltaRead}

@@ -1,8 +1,8 @@
 -- How code comes to the parts of an entry: from what its calls give to `EntryReads`.
-use Prim.Native.Nat.{ℕ, zero, suc, _+_, _-_, _≤_, _<_, min}
+use Prim.Native.Nat.{ℕ, _+_, _-_, _≤_, _<_, min}
 use mathlib.Core.Path.{_≡_, refl, sym, ap, _∙_}
 use mathlib.Core.List.{List, [], _∷_, _++_, append-assoc}
-use mathlib.Core.Bool.{Bool, true, false, not, cond, _&&_, _||_}
+use mathlib.Core.Bool.{Bool, true, false, not, cond, _||_}
 use native.Mathlib.Nat.{zero-div, zero-mod}
 use native.Mathlib.Omega.{arith}
 use lib.Dec.{eqb, ltb, leb, lit<}
@@ -13,7 +13,7 @@ use Rattle.bit_reader.specs.declared.Cursor.{Cursor}
 use Rattle.bit_reader.specs.declared.BitsRead.{BitsRead}
 use Rattle.bit_reader.specs.Reading.{ueRead, demanded, bitsOr}
 use Rattle.partition.specs.Entry.{tileX, tileY, widthCoded, heightCoded, inheritedHeight, numSlicesInTile, splitHeights}
-use Rattle.partition.specs.Sizes.{sum, explicitSizes, axisSizes, uniformSize, length-sizes}
+use Rattle.partition.specs.Sizes.{sum, explicitSizes, length-sizes}
 use Rattle.syntax.specs.Element.{Parsed}
 use Rattle.syntax.specs.Lists.{not-true}
 use Rattle.tile_grid.specs.declared.SlicesInTile.{SlicesInTile}

@@ -1,9 +1,9 @@
 -- What the parts of an entry of the slice loop give in reading (H.266 7.3.2.5), over plain numbers: the columns and rows of the grid, the tile, its row's height.
-use Prim.Native.Nat.{ℕ, suc, _+_, _-_}
+use Prim.Native.Nat.{ℕ, _+_, _-_}
 use mathlib.Core.List.{List}
-use mathlib.Core.Bool.{Bool, not, cond, _&&_, _||_}
+use mathlib.Core.Bool.{Bool, not, _&&_, _||_}
 use lib.Dec.{ltb, leb}
-use lib.IntN.{ℤ, pos}
+use lib.IntN.{pos}
 use Rattle.bit_reader.specs.declared.Cursor.{Cursor}
 use Rattle.bit_reader.specs.declared.BitsRead.{BitsRead}
 use Rattle.bit_reader.specs.declared.SignedRead.{SignedRead}

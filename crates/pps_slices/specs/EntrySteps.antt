@@ -1,29 +1,28 @@
 -- The parts of an entry, read one behind the other, read the entry as its description says.
-use Prim.Native.Nat.{ℕ, zero, suc, _+_, _-_, _≤_, _<_, min}
+use Prim.Native.Nat.{ℕ, _+_, _-_, _<_}
 use mathlib.Core.Path.{_≡_, refl, sym, ap, _∙_}
-use mathlib.Core.List.{List, [], _∷_}
+use mathlib.Core.List.{List, []}
 use mathlib.Core.Bool.{Bool, true, false, not, cond, _&&_, _||_}
 use native.Mathlib.Omega.{arith}
 use lib.Dec.{ltb, leb, lit<}
-use lib.IntN.{ℤ, pos}
-use lib.ListN.{length}
+use lib.IntN.{pos}
 use borrow.Author.Tests.{le-leb}
 use Rattle.bit_reader.specs.declared.Cursor.{Cursor}
 use Rattle.bit_reader.specs.declared.BitsRead.{BitsRead}
 use Rattle.bit_reader.specs.declared.SignedRead.{SignedRead}
-use Rattle.bit_reader.specs.Reading.{ueRead, seRead, demanded, bitsOr, signedOr}
-use Rattle.partition.specs.Entry.{Position, tileX, tileY, widthCoded, heightCoded, inheritedHeight, splitCoded, splitHeights, numSlicesInTile}
+use Rattle.bit_reader.specs.Reading.{demanded, bitsOr}
+use Rattle.partition.specs.Entry.{Position, widthCoded, heightCoded, inheritedHeight, splitCoded, splitHeights, numSlicesInTile}
 use Rattle.partition.specs.Sizes.{sum, explicitSizes}
 use Rattle.partition.specs.Grid.{Grid, columns, rows, tiles}
 use Rattle.partition.specs.Walk.{rowHeightOf}
 use Rattle.syntax.specs.Element.{Parsed, parsed}
-use Rattle.syntax.specs.Elements.{bitsParsed, ue, se, ueIf, limited, absent, presence, oneIf, sameℕ, sameℤ, orElse}
+use Rattle.syntax.specs.Elements.{ue, se, ueIf, limited, absent, presence, oneIf, sameℕ, sameℤ, orElse}
 use Rattle.syntax.specs.Lists.{many, none}
-use Rattle.syntax.specs.ReadSteps.{reads, reads-done, reads-test, reads-both, reads-past, bits-or}
-use Rattle.syntax.specs.Syntax.{Syntax, parse, _for_, _>>=_}
-use Rattle.pps_syntax.specs.SliceSyntax.{RectSlice, rectSlice, sliceHeight, sliceSplit, sliceMove}
+use Rattle.syntax.specs.ReadSteps.{reads, reads-done, reads-test, reads-both, reads-past}
+use Rattle.syntax.specs.Syntax.{parse, _for_}
+use Rattle.pps_syntax.specs.SliceSyntax.{rectSlice, sliceHeight, sliceSplit, sliceMove}
 use Rattle.pps_fields.specs.FieldReads.{tested, ue-field, se-field, tested-or}
-use Rattle.pps_fields.specs.Sizes.{sizesRead, sizes-many}
+use Rattle.pps_fields.specs.Sizes.{sizes-many}
 use Rattle.pps_slices.specs.SizeReads.{sizes-none}
 use Rattle.pps_slices.specs.EntryReads.{widthRead, heightRead, countRead, countTested, heightsRead, lastOf, heightsTested, deltaRead, moveTested}
 

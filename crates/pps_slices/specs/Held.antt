@@ -1,10 +1,9 @@
 -- What holds at each turn of the slice loop over the tables: what is left to be read and put, with what is there, makes the whole.
-use Prim.Native.Nat.{ℕ, zero, suc, _+_, _-_, _*_, _≤_, _<_, min}
+use Prim.Native.Nat.{ℕ, suc, _+_, _-_, _*_, _≤_, _<_}
 use mathlib.Core.Path.{_≡_, refl, sym, ap, subst, _∙_}
-use mathlib.Core.List.{List, [], _∷_, _++_, map}
-use mathlib.Core.Bool.{Bool, true, false}
+use mathlib.Core.List.{List, [], _++_, map}
+use mathlib.Core.Bool.{Bool, true}
 use native.Mathlib.Nat.{add-zero, zero-add, sub-zero}
-use native.Mathlib.Numerals.{add-one}
 use native.Mathlib.Omega.{arith}
 use lib.Dec.{ltb}
 use lib.IntN.{ℤ}
@@ -221,7 +220,7 @@ held-small H go = (omega (arith, H .room, H .follows .sliceIs), omega (arith, H 
 pub held-ready : {g : Grid} {deltas : Bool} {N : ℕ} {s : List ℕ} {c₀ : Cursor} {t₀ t : SliceTables} {c : Cursor} {slice tile preceding i from : ℕ} {columns rows : ℕ}
     → Held g deltas N s c₀ t₀ t c slice tile preceding i from → slice < N → Started columns rows N (length (t₀ .splitHeights))
     → (from ≤ slice) × (slice ≤ N) × (N < length (t .splitHeights)) × (rows * columns ≤ 4294967295)
-held-ready H go st = (omega (arith, H .room, H .follows .sliceIs), omega arith, omega (arith, held-lengths H .splitHeights, st .roomy), omega (arith, st .tilesFit))
+held-ready H go st = (omega (arith, H .room, H .follows .sliceIs), omega arith, omega (arith, held-lengths H .splitHeights, st .roomy), omega (arith, st .limited .tilesFit))
 
 module _ (ws hs : List ℕ) (deltas : Bool) (N places : ℕ) (s : List ℕ) (c : Cursor) {d : Cursor} (e : d ≡ loopStart (length ws) (length hs) N places c) where
   pub slices-made : {t u : SliceTables} {n : ℕ} {next : Cursor}

@@ -36,26 +36,34 @@ slicesFor ws hs deltas N places s c = rectSlices (gridOf ws hs) deltas N firstPo
 unfoldable pub refusedFor : List ℕ → List ℕ → Bool → ℕ → ℕ → List ℕ → Cursor → List ℕ
 refusedFor ws hs deltas N places s c = refusedHeights (gridOf ws hs) deltas N firstPosition s (loopStart (length ws) (length hs) N places c)
 
--- what a start that is not refused says
-pub record Started (columns rows N places : ℕ) : Type 0 where
+-- what the limits say
+pub record Limited (columns rows : ℕ) : Type 0 where
   pub few : columns ≤ maxTileColumns
   pub low : rows ≤ maxTiles
   pub tilesFit : rows * columns ≤ maxTiles
-  pub roomy : N < places
 
-pub started : (columns rows N places : ℕ) (c d : Cursor) → d ≡ loopStart columns rows N places c → d .refused ≡ 0 → Started columns rows N places
-unfolding loopStart withinLimits
-started columns rows N places c d e h =
-    let a = demanded-held (ltb N places) 5 _ (lit< tt) (rw e at h) in
-    let b = demanded-held (leb columns maxTileColumns && leb rows (maxTiles / columns)) 13 c (lit< tt) (a .1) in
-    let p = and-parts _ _ (b .0) in
+pub limits-held : (columns rows : ℕ) → withinLimits columns rows ≡ true → Limited columns rows
+unfolding withinLimits
+limits-held columns rows e =
+    let p = and-parts (leb columns maxTileColumns) (leb rows (maxTiles / columns)) e in
     let low : rows ≤ maxTiles / columns = leb-true rows (maxTiles / columns) (p .1) in
     record {
       few = leb-true columns maxTileColumns (p .0);
       low = omega (arith, div-le-self maxTiles columns);
       tilesFit = omega (arith, mul-le-mul-right columns low, div-mul-le-self maxTiles columns);
-      roomy = ltb-true N places (a .0);
     }
+
+-- what a start that is not refused says
+pub record Started (columns rows N places : ℕ) : Type 0 where
+  pub limited : Limited columns rows
+  pub roomy : N < places
+
+pub started : (columns rows N places : ℕ) (c d : Cursor) → d ≡ loopStart columns rows N places c → d .refused ≡ 0 → Started columns rows N places
+unfolding loopStart
+started columns rows N places c d e h =
+    let a = demanded-held (ltb N places) 5 (demanded (withinLimits columns rows) 13 c) (lit< tt) (rw e at h) in
+    let b = demanded-held (withinLimits columns rows) 13 c (lit< tt) (a .1) in
+    record { limited = limits-held columns rows (b .0); roomy = ltb-true N places (a .0) }
 
 pub limits-none : (columns rows : ℕ) → columns ≡ 0 → eqb rows 0 ≡ withinLimits columns rows
 unfolding withinLimits

@@ -1,19 +1,16 @@
 -- The slice loop (H.266 7.3.2.5), read into the lent tables: entry i goes to place i of six tables, its explicit slice heights behind those of the entries before it.
-use Prim.Native.Nat.{ℕ, zero, suc, _+_, _-_, _*_, _/_, _≤_, _<_, min}
-use mathlib.Core.Path.{_≡_, refl, sym, ap, ap₂, _∙_}
+use Prim.Native.Nat.{ℕ, zero, suc, _+_, _-_}
+use mathlib.Core.Path.{_≡_, refl}
 use mathlib.Core.List.{List, [], _∷_, _++_, map, append-assoc, append-nil}
-use mathlib.Core.Bool.{Bool, true, false, cond, _&&_}
-use native.Mathlib.Omega.{arith}
-use lib.Dec.{eqb, ltb, leb}
-use lib.IntN.{ℤ}
+use mathlib.Core.Bool.{Bool, true, false, cond}
+use lib.Dec.{eqb, ltb}
 use lib.ListN.{length, set}
 use lib.Seq.{sets}
 use borrow.Author.Tests.{eq-eqb, ne-eqb}
 use Rattle.tables.specs.Tables.{sets-append}
 use Rattle.bit_reader.specs.declared.Cursor.{Cursor}
-use Rattle.bit_reader.specs.Reading.{demanded}
-use Rattle.partition.specs.Entry.{Position, firstPosition}
-use Rattle.partition.specs.Grid.{Grid, columns, rows, tiles, maxTileColumns, maxTiles}
+use Rattle.partition.specs.Entry.{Position}
+use Rattle.partition.specs.Grid.{Grid}
 use Rattle.partition.specs.Walk.{onward}
 use Rattle.syntax.specs.Element.{Parsed, parsed, Element}
 use Rattle.syntax.specs.Elements.{orElse}

@@ -1,14 +1,13 @@
 -- Laws on lists of ue(v) below a bound: none of them, how many there are at most, and a refusal before them.
-use Prim.Native.Nat.{ℕ, zero, suc, _+_, _≤_, _<_}
+use Prim.Native.Nat.{ℕ, zero, suc, _≤_, _<_}
 use mathlib.Core.Path.{_≡_, refl, sym, ap, _∙_}
-use mathlib.Core.List.{List, [], _∷_}
+use mathlib.Core.List.{List, []}
 use mathlib.Core.Bool.{Bool, true, false, cond}
 use native.Mathlib.Omega.{arith}
 use lib.Dec.{eqb, ltb}
 use lib.ListN.{length}
 use borrow.Author.Tests.{eqb-false}
 use Rattle.bit_reader.specs.declared.Cursor.{Cursor}
-use Rattle.bit_reader.specs.declared.BitsRead.{BitsRead}
 use Rattle.bit_reader.specs.Reading.{refusal, ueRead, demanded}
 use Rattle.bit_reader.specs.Laws.{ue-stays, ue-is, demanded-refused}
 use Rattle.syntax.specs.Element.{Parsed, parsed}

@@ -4,10 +4,8 @@ use mathlib.Core.Path.{_≡_, refl, sym, ap, _∙_}
 use mathlib.Core.List.{List, []}
 use mathlib.Core.Bool.{Bool, true, false, _&&_}
 use lib.Dec.{ltb}
-use lib.IntN.{ℤ, pos}
 use Rattle.bit_reader.specs.declared.Cursor.{Cursor}
 use Rattle.bit_reader.specs.declared.BitsRead.{BitsRead}
-use Rattle.bit_reader.specs.declared.SignedRead.{SignedRead}
 use Rattle.bit_reader.specs.Reading.{ueRead, seRead, demanded, bitsOr, signedOr}
 use Rattle.bit_reader.specs.Laws.{demanded-refused}
 use Rattle.partition.specs.Entry.{Position, splitCoded}
@@ -17,11 +15,11 @@ use Rattle.syntax.specs.Element.{Parsed, parsed}
 use Rattle.syntax.specs.Elements.{oneIf}
 use Rattle.syntax.specs.Lists.{walk}
 use Rattle.syntax.specs.Syntax.{parse}
-use Rattle.pps_syntax.specs.SliceSyntax.{RectSlice, rectSlice, sliceMove, rectSlices}
+use Rattle.pps_syntax.specs.SliceSyntax.{RectSlice, rectSlice, rectSlices}
 use Rattle.pps_fields.specs.FieldReads.{tested}
 use Rattle.pps_slices.specs.SizeReads.{ue-stuck, sizes-stuck}
 use Rattle.pps_slices.specs.EntryReads.{widthRead, heightRead, countRead, countTested, heightsRead, lastOf, heightsTested, deltaRead, moveTested}
-use Rattle.pps_slices.specs.EntrySteps.{unsplit-none, width-step, height-step, split-step, move-step}
+use Rattle.pps_slices.specs.EntrySteps.{width-step, height-step, split-step, move-step}
 use Rattle.pps_slices.specs.Loop.{refusedFrom, refusedHeights, turns, turns-end, turns-stop}
 
 module _ (s : List ℕ) (c : Cursor) (stuck : c .refused ≡ 0 → ⊥) where

@@ -1,5 +1,4 @@
 // One entry of the slice loop (H.266 7.3.2.5).
-ghost use mathlib.Core.Path.{_≡_};
 ghost use Prim.Native.Nat.{_*_, _≤_, _<_};
 ghost use lib.ListN.{length};
 ghost use Rattle.partition.specs.Grid.{Grid};

@@ -1,9 +1,7 @@
 // The rectangular slices of a picture parameter set, read into lent tables (the slice loop of the Rust's parse_partition).
 ghost use mathlib.Core.Path.{_≡_};
-ghost use mathlib.Core.Bool.{_&&_};
-ghost use Prim.Native.Nat.{_*_, _/_, _≤_, _<_};
+ghost use Prim.Native.Nat.{_/_, _<_};
 ghost use lib.ListN.{length};
-ghost use Rattle.partition.specs.Grid.{maxTileColumns, maxTiles};
 ghost use Rattle.pps_syntax.specs.SliceTables.{sliceTables};
 ghost use Rattle.pps_slices.specs.Held.{SlicesRead};
 ghost use Rattle.pps_slices.specs.Limits.{withinLimits, loopStart, slicesFor, refusedFor};

@@ -1,12 +1,11 @@
 // The parts of an entry of the slice loop (H.266 7.3.2.5): width, height, explicit slice heights, and the way to the next tile.
 ghost use mathlib.Core.Path.{_≡_};
-ghost use mathlib.Core.Bool.{cond, true, _&&_};
+ghost use mathlib.Core.Bool.{cond};
 ghost use Prim.Native.Nat.{suc, _+_, _-_, _*_, _≤_, _<_, min};
 ghost use lib.Dec.{eqb, ltb, leb};
 ghost use lib.ListN.{length};
 ghost use lib.Seq.{sets};
 ghost use Rattle.bit_reader.specs.Reading.{ueRead, bitsOr};
-ghost use Rattle.partition.specs.Entry.{splitCoded, numSlicesInTile, tileAfterDelta, defaultAdvance};
 ghost use Rattle.syntax.specs.Elements.{oneIf};
 ghost use Rattle.pps_fields.specs.FieldReads.{tested};
 ghost use Rattle.pps_slices.specs.EntryReads.{widthRead, heightRead, countRead, heightsRead, lastOf, heightsTested};

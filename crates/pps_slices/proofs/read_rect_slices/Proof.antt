@@ -1,10 +1,8 @@
 -- The invariant is `Held`; each need cites one of its laws.
-use Prim.Native.Nat.{_-_, _<_, _≤_}
-use mathlib.Core.Path.{_≡_, refl}
-use lib.ListN.{length}
+use Prim.Native.Nat.{_-_}
+use mathlib.Core.Path.{refl}
 use native.Mathlib.Omega.{arith}
 use Rattle.pps_syntax.specs.SliceTables.{sliceTables}
-use Rattle.pps_slices.specs.Entries.{LoopOver}
 use Rattle.pps_slices.specs.Limits.{gridOf, started}
 use Rattle.pps_slices.specs.Held.{Held, held-begins, held-ends, held-stops, held-more, held-ready, held-small, held-lengths, entry-length, slices-made, slices-none}
 use Rattle.pps_slices.proofs.read_rect_slices.Statement.{statement}
@@ -23,10 +21,10 @@ returns : tie.Need-returns Inv-loop μ-loop
 returns c = slices-none _ _ _ _ _ _ _ (c .before .before .loop-start .ensures) _ (c .if1 .taken)
 
 cast-t27 : tie.Need-cast-t27 Inv-loop μ-loop
-cast-t27 c = omega (arith, started _ _ _ _ _ _ (c .before .before .loop-start .ensures) (c .if1 .left) .few)
+cast-t27 c = omega (arith, started _ _ _ _ _ _ (c .before .before .loop-start .ensures) (c .if1 .left) .limited .few)
 
 cast-t28 : tie.Need-cast-t28 Inv-loop μ-loop
-cast-t28 c = omega (arith, started _ _ _ _ _ _ (c .before .before .loop-start .ensures) (c .if1 .left) .low)
+cast-t28 c = omega (arith, started _ _ _ _ _ _ (c .before .before .loop-start .ensures) (c .if1 .left) .limited .low)
 
 loop-holds : tie.Need-loop-holds Inv-loop μ-loop
 loop-holds c = held-begins _ _ _ _ _ _

@@ -1,0 +1,16 @@
+use borrow.Author.Tests.{eq-eqb, ne-eqb}
+use Rattle.pps_syntax.specs.Record.{partitionRecord}
+use Rattle.pps_partition.specs.PartitionAnswer.{partitionNumbers, partitionOf}
+use Rattle.pps_partition.proofs.partition_of.Statement.{statement}
+use Rattle.pps_partition.proofs.partition_of.Tie as tie
+
+returns : tie.Need-returns
+unfolding partitionOf partitionRecord
+returns c = rw (ne-eqb _ 0 (c .if1 .taken))
+
+returns-2 : tie.Need-returns-2
+unfolding partitionOf partitionNumbers
+returns-2 c = rw (eq-eqb _ 0 (c .if1 .left))
+
+pub partition-of-spec : {M : Type 1} → statement M
+partition-of-spec = tie.close (tie.spec returns returns-2)

@@ -1,0 +1,11 @@
+pub mod TileSizes
+pub mod SliceFlags
+pub mod Block
+pub mod GridTests
+pub mod Accepted
+pub mod Slicing
+pub mod Answers
+pub mod TilesStored
+pub mod PartitionAnswer
+pub mod Whole
+pub mod NothingLeft

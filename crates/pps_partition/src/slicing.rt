@@ -1,0 +1,209 @@
+// The partition block behind its grid: the flags that say how slices are coded, the slices, and the last flag (H.266 7.3.2.5).
+ghost use mathlib.Core.Path.{_≡_};
+ghost use mathlib.Core.Bool.{true};
+ghost use Prim.Native.Nat.{_≤_};
+ghost use lib.ListN.{length};
+ghost use Rattle.partition.specs.Grid.{Grid};
+ghost use Rattle.pps_syntax.specs.SliceTables.{sliceTables};
+ghost use Rattle.syntax.specs.Element.{parsed};
+ghost use Rattle.syntax.specs.Syntax.{parse};
+ghost use Rattle.pps_slices.specs.Held.{SlicesRead};
+ghost use Rattle.pps_slices.specs.Limits.{gridOf, withinLimits};
+ghost use Rattle.pps_partition.specs.Answers.{flagsOf, readFlags, GridIs};
+ghost use Rattle.pps_partition.specs.Block.{several};
+ghost use Rattle.pps_partition.specs.SliceFlags.{sliceFlags};
+ghost use Rattle.pps_partition.specs.Slicing.{Sliced, slicesIf, leftIf};
+use bit_reader::Cursor;
+use bit_reader::guarded::flag_or;
+use pps_fields::fields::ue_at_most;
+use pps_slices::RectSlicesRead;
+use pps_slices::read_rect_slices;
+use slice_loop::SliceIdx;
+use tile_grid::TileGrid;
+
+pub struct SliceFlagsRead {
+    pub across_tiles: u8,
+    pub rect: u8,
+    pub single: u8,
+    pub num_slices_minus1: u32,
+    pub deltas: u8,
+    pub next: Cursor,
+}
+
+pub fn read_flags(s: &[u8], several: bool, c: Cursor) -> SliceFlagsRead
+    ensures { λ r. ⌜ parsed (readFlags r) (r .next) ≡ parse (sliceFlags several) (now (s .entry)) c ⌝ }
+{
+    let across = flag_or(s, several, 0, c);
+    let rect = flag_or(s, several, 1, across.next);
+    let single = flag_or(s, rect.value != 0, 0, rect.next);
+    let coded = (rect.value != 0) & (single.value == 0);
+    let n = ue_at_most(s, coded, TileGrid::MAX_NUM_SLICES_MINUS1, 14, single.next);
+    let deltas = flag_or(s, coded & (n.value > 1), 0, n.next);
+    let next = deltas.next;
+    SliceFlagsRead {
+        across_tiles: across.value,
+        rect: rect.value,
+        single: single.value,
+        num_slices_minus1: n.value,
+        deltas: deltas.value,
+        next,
+    }
+}
+
+// The slices, where they are coded.
+pub fn read_coded_slices(
+    s: &[u8],
+    coded: bool,
+    column_widths: &[u32],
+    row_heights: &[u32],
+    deltas_coded: bool,
+    n: u32,
+    widths: &mut [u32],
+    heights: &mut [u32],
+    split_present: &mut [u8],
+    split_counts: &mut [u32],
+    delta_present: &mut [u8],
+    deltas: &mut [i32],
+    split_heights: &mut [u32],
+    c: Cursor,
+) -> RectSlicesRead
+    ensures { λ r. ⌜ SlicesRead (slicesIf coded (now («column_widths» .entry)) (now («row_heights» .entry)) «deltas_coded» n (length (now («split_heights» .entry))) (now (s .entry)) c) (leftIf coded (now («column_widths» .entry)) (now («row_heights» .entry)) «deltas_coded» n (length (now («split_heights» .entry))) (now (s .entry)) c) (sliceTables (now (widths .entry)) (now (heights .entry)) (now («split_present» .entry)) (now («split_counts» .entry)) (now («delta_present» .entry)) (now (deltas .entry)) (now («split_heights» .entry))) (sliceTables (now (widths .exit)) (now (heights .exit)) (now («split_present» .exit)) (now («split_counts» .exit)) (now («delta_present» .exit)) (now (deltas .exit)) (now («split_heights» .exit))) (r .count) (r .next) ⌝ }
+{
+    if coded {
+        let last = SliceIdx(n);
+        return read_rect_slices(
+            s,
+            column_widths,
+            row_heights,
+            deltas_coded,
+            last,
+            widths,
+            heights,
+            split_present,
+            split_counts,
+            delta_present,
+            deltas,
+            split_heights,
+            c,
+        );
+    }
+    RectSlicesRead { count: 0, next: c }
+}
+
+// What stands behind the grid; the entries and explicit slice heights are in their tables.
+pub struct SlicingRead {
+    pub across_tiles: u8,
+    pub rect: u8,
+    pub single: u8,
+    pub num_slices_minus1: u32,
+    pub deltas: u8,
+    pub num_rect_slices: u32,
+    pub across_slices: u8,
+    pub next: Cursor,
+}
+
+// All that stands behind the grid, whose column widths and row heights are lent.
+pub fn read_slicing(
+    s: &[u8],
+    several: bool,
+    column_widths: &[u32],
+    row_heights: &[u32],
+    widths: &mut [u32],
+    heights: &mut [u32],
+    split_present: &mut [u8],
+    split_counts: &mut [u32],
+    delta_present: &mut [u8],
+    deltas: &mut [i32],
+    split_heights: &mut [u32],
+    c: Cursor,
+) -> SlicingRead
+    requires { ⌜ (withinLimits (length (now «column_widths»)) (length (now «row_heights»)) ≡ true) × (1000 ≤ length (now «split_heights»)) ⌝ }
+    ensures { λ r. ⌜ Sliced (gridOf (now («column_widths» .entry)) (now («row_heights» .entry))) several (now (s .entry)) c (sliceTables (now (widths .entry)) (now (heights .entry)) (now («split_present» .entry)) (now («split_counts» .entry)) (now («delta_present» .entry)) (now (deltas .entry)) (now («split_heights» .entry))) (sliceTables (now (widths .exit)) (now (heights .exit)) (now («split_present» .exit)) (now («split_counts» .exit)) (now («delta_present» .exit)) (now (deltas .exit)) (now («split_heights» .exit))) (flagsOf r) (r .«num_rect_slices») (r .«across_slices») (r .next) ⌝ }
+{
+    let f = read_flags(s, several, c);
+    let coded = (f.rect != 0) & (f.single == 0);
+    let slices = read_coded_slices(
+        s,
+        coded,
+        column_widths,
+        row_heights,
+        f.deltas != 0,
+        f.num_slices_minus1,
+        widths,
+        heights,
+        split_present,
+        split_counts,
+        delta_present,
+        deltas,
+        split_heights,
+        f.next,
+    );
+    let one = coded & (f.num_slices_minus1 == 0);
+    let across = flag_or(s, !one, 0, slices.next);
+    let next = across.next;
+    SlicingRead {
+        across_tiles: f.across_tiles,
+        rect: f.rect,
+        single: f.single,
+        num_slices_minus1: f.num_slices_minus1,
+        deltas: f.deltas,
+        num_rect_slices: slices.count,
+        across_slices: across.value,
+        next,
+    }
+}
+
+pub fn no_slicing(c: Cursor) -> SlicingRead
+    ensures { λ r. ⌜ r .next ≡ c ⌝ }
+{
+    SlicingRead {
+        across_tiles: 0,
+        rect: 0,
+        single: 0,
+        num_slices_minus1: 0,
+        deltas: 0,
+        num_rect_slices: 0,
+        across_slices: 0,
+        next: c,
+    }
+}
+
+// The same over a grid, which is within its limits unless reading was refused.
+pub fn read_in_grid(
+    s: &[u8],
+    grid: TileGrid,
+    widths: &mut [u32],
+    heights: &mut [u32],
+    split_present: &mut [u8],
+    split_counts: &mut [u32],
+    delta_present: &mut [u8],
+    deltas: &mut [i32],
+    split_heights: &mut [u32],
+    c: Cursor,
+) -> SlicingRead
+    requires { ⌜ (c .refused ≡ 0 → (withinLimits (grid .«num_tile_columns») (grid .«num_tile_rows») ≡ true) × (1000 ≤ length (now «split_heights»))) ⌝ }
+    ensures { λ r. ⌜ ((g : Grid) → (c .refused ≡ 0 → GridIs g grid) → Sliced g (several g) (now (s .entry)) c (sliceTables (now (widths .entry)) (now (heights .entry)) (now («split_present» .entry)) (now («split_counts» .entry)) (now («delta_present» .entry)) (now (deltas .entry)) (now («split_heights» .entry))) (sliceTables (now (widths .exit)) (now (heights .exit)) (now («split_present» .exit)) (now («split_counts» .exit)) (now («delta_present» .exit)) (now (deltas .exit)) (now («split_heights» .exit))) (flagsOf r) (r .«num_rect_slices») (r .«across_slices») (r .next)) ⌝ }
+{
+    if c.refused != 0 {
+        return no_slicing(c);
+    }
+    let several = grid.num_tile_rows as u64 * grid.num_tile_columns as u64 > 1;
+    let columns = grid.num_tile_columns as usize;
+    let rows = grid.num_tile_rows as usize;
+    let column_widths = grid.column_widths;
+    let row_heights = grid.row_heights;
+    read_slicing(
+        s,
+        several,
+        &column_widths[..columns],
+        &row_heights[..rows],
+        widths,
+        heights,
+        split_present,
+        split_counts,
+        delta_present,
+        deltas,
+        split_heights,
+        c,
+    )
+}
