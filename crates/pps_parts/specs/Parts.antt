@@ -23,8 +23,8 @@ use Rattle.pps_syntax.specs.SubpicIds.{SubpicIds}
 use Rattle.syntax.specs.Element.{Parsed, parsed}
 use Rattle.syntax.specs.Elements.{isSet}
 use Rattle.syntax.specs.Syntax.{parse}
-use Rattle.pps_read.specs.declared.parts.FrontRead.{FrontRead}
-use Rattle.pps_read.specs.declared.parts.BackRead.{BackRead}
+use Rattle.pps_parts.specs.declared.FrontRead.{FrontRead}
+use Rattle.pps_parts.specs.declared.BackRead.{BackRead}
 
 unfoldable pub frontOf : Parsed Front → FrontRead
 frontOf p =

@@ -5,7 +5,7 @@ ghost use lib.Seq.{sets};
 ghost use Rattle.syntax.specs.Syntax.{parse};
 ghost use Rattle.pps_syntax.specs.Pps.{front, back};
 ghost use Rattle.pps_syntax.specs.Record.{rowOf};
-ghost use Rattle.pps_read.specs.Parts.{frontOf, backOf};
+ghost use Rattle.pps_parts.specs.Parts.{frontOf, backOf};
 use bit_reader::Cursor;
 use pps_blocks::chroma::read_chroma;
 use pps_blocks::deblocking::read_deblocking;
@@ -25,6 +25,9 @@ use pps_record::groups::Head;
 use pps_record::groups::PictureHeaderFlags;
 use pps_record::groups::PictureKind;
 use pps_record::groups::References;
+
+pub mod end;
+pub mod taken;
 
 pub struct FrontRead {
     pub head: Head,

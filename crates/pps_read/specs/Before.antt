@@ -1,15 +1,14 @@
 -- The tests before the first field, one law for each outcome.
 use Prim.Native.Nat.{ℕ, _-_, _<_, _≤_}
-use mathlib.Core.Path.{_≡_, refl, sym, ap, _∙_}
+use mathlib.Core.Path.{_≡_, refl, sym, ap}
 use mathlib.Core.List.{List}
 use mathlib.Core.Bool.{Bool, true, false, not, cond}
 use native.Mathlib.Omega.{arith}
-use lib.Dec.{ltb, eqb}
+use lib.Dec.{ltb, eqb, lit<}
 use lib.ListN.{length}
 use borrow.Author.Tests.{lt-ltb, le-ltb, eq-eqb, ne-eqb, ltb-true, ltb-false}
 use Rattle.codes.specs.Bytes.{bitsAt}
 use Rattle.h266.specs.Header.{headerOf, fieldsOf}
-use Rattle.h266.specs.declared.NalHeader.{NalHeader}
 use Rattle.h266.specs.declared.NalHeader.the-variants.{Header, Refused}
 use Rattle.h266.specs.declared.VvcNalHeader.{VvcNalHeader}
 use Rattle.pps_syntax.specs.Rbsp.{beforeFields}
@@ -65,3 +64,28 @@ module _ (nal : List ℕ) (work : ℕ) (tables : Bool) where
           pub before-0 : tables ≡ true → 0 ≡ beforeFields nal work tables
           unfolding beforeFields
           before-0 e = rw (le-ltb _ _ a, eq-eqb _ _ b, le-ltb _ _ c, le-ltb _ _ d, e)
+
+-- ---- what it says that they all pass
+pub record Passed (nal : List ℕ) (work : ℕ) (tables : Bool) : Type 0 where
+  pub header : 2 ≤ length nal
+  pub short : length nal ≤ 65535
+  pub room : length nal - 2 ≤ work
+  pub fit : tables ≡ true
+
+next-test : (b : Bool) (n m : ℕ) → 0 < n → 0 ≡ cond b n m → (b ≡ false) × (0 ≡ m)
+next-test true n m l e = absurd (omega arith)
+next-test false n m l e = (refl, e)
+
+not-false : (b : Bool) → not b ≡ false → b ≡ true
+not-false true e = refl
+not-false false e = absurd (let n : _≡_ {A = ℕ} 0 1 = cc in omega arith)
+
+pub before-passed : (nal : List ℕ) (work : ℕ) (tables : Bool) → 0 ≡ beforeFields nal work tables → Passed nal work tables
+unfolding beforeFields
+before-passed nal work tables e =
+    let a = next-test (ltb (length nal) 2) 1 _ (lit< tt) e in
+    let b = next-test (not (eqb (bitsAt nal 8 5) 16)) 2 _ (lit< tt) (a .1) in
+    let c = next-test (ltb 65535 (length nal)) 3 _ (lit< tt) (b .1) in
+    let d = next-test (ltb work (length nal - 2)) 4 _ (lit< tt) (c .1) in
+    let f = next-test (not tables) 5 0 (lit< tt) (d .1) in
+    record { header = ltb-false _ _ (a .0); short = ltb-false _ _ (c .0); room = ltb-false _ _ (d .0); fit = not-false tables (f .0) }

@@ -3,16 +3,16 @@
 use Prim.Native.Nat.{ℕ}
 use mathlib.Core.List.{List, [], _∷_, map}
 use mathlib.Core.Path.{_≡_}
-use mathlib.Core.Bool.{Bool, cond}
-use lib.Dec.{eqb}
+use mathlib.Core.Bool.{Bool, cond, _&&_}
+use lib.Dec.{eqb, leb}
 use lib.IntN.{ℤ, pos}
 use lib.ListN.{length}
+use lib.Seq.{sets}
 use Rattle.tables.specs.Tables.{blank, over}
-use Rattle.pps_record.specs.declared.VvcPps.{VvcPps}
 use Rattle.pps_syntax.specs.FromRecord.{Lent}
 use Rattle.pps_syntax.specs.PartitionSyntax.{PartitionBlock}
 use Rattle.pps_syntax.specs.Pps.{Pps}
-use Rattle.pps_syntax.specs.Rbsp.{ReadSet, ReadAnswer, accepted, refused, readRbsp, beforeFields, rbspOf}
+use Rattle.pps_syntax.specs.Rbsp.{ReadAnswer, accepted, refused, readRbsp, beforeFields, rbspOf}
 use Rattle.pps_syntax.specs.Record.{rowOf}
 use Rattle.pps_syntax.specs.SliceSyntax.{RectSlice}
 use Rattle.pps_syntax.specs.SliceTables.{SliceTables, sliceTables, putSlices}
@@ -31,6 +31,23 @@ slicesOf [] = []
 slicesOf (p ∷ ps) = p .rectSlices
 
 -- ---- the tables
+abbrev pub lent : List ℕ → List ℕ → List ℕ → SliceTables → List (List ℤ) → Lent
+lent ids columns rows slices triples = record { subpicIds = ids; columnWidths = columns; rowHeights = rows; slices = slices; triples = triples }
+
+-- whether all have their stated lengths; in the order in which they are lent
+unfoldable pub tablesFit : ℕ → ℕ → ℕ → ℕ → ℕ → ℕ → ℕ → ℕ → ℕ → ℕ → Bool
+tablesFit ids columns rows widths heights splitPresent splitCounts deltaPresent deltas splitHeights =
+    leb 1000 ids
+    && (leb 30 columns
+    && (leb 990 rows
+    && (leb 999 widths
+    && (leb 999 heights
+    && (leb 999 splitPresent
+    && (leb 999 splitCounts
+    && (leb 999 deltaPresent
+    && (leb 999 deltas
+    && leb 1000 splitHeights))))))))
+
 abbrev pub zeros : List ℕ → List ℕ
 zeros t = blank (length t) 0
 
@@ -54,7 +71,7 @@ cleared t =
       columnWidths = zeros (t .columnWidths);
       rowHeights = zeros (t .rowHeights);
       slices = clearedSlices (t .slices);
-      triples = blank (length (t .triples)) (pos 0 ∷ pos 0 ∷ pos 0 ∷ []);
+      triples = blank 6 (pos 0 ∷ pos 0 ∷ pos 0 ∷ []);
     }
 
 -- the entries in use, then zeros
@@ -67,6 +84,17 @@ filled r t =
       rowHeights = over (rowsOf (r .partition)) (z .rowHeights);
       slices = putSlices (z .slices) 0 0 (slicesOf (r .partition));
       triples = over (map rowOf (r .back .chroma .list)) (z .triples);
+    }
+
+-- the entries alone
+unfoldable pub putLists : Pps → Lent → Lent
+putLists r t =
+    record {
+      subpicIds = sets (t .subpicIds) 0 (r .front .subpicIds .«pps_subpic_id»);
+      columnWidths = sets (t .columnWidths) 0 (columnsOf (r .partition));
+      rowHeights = sets (t .rowHeights) 0 (rowsOf (r .partition));
+      slices = putSlices (t .slices) 0 0 (slicesOf (r .partition));
+      triples = sets (t .triples) 0 (map rowOf (r .back .chroma .list));
     }
 
 -- after the fields were looked at
@@ -87,3 +115,9 @@ pub slices-cleared : (t : SliceTables) {ws hs sp sc dp sh : List ℕ} {ds : List
     → dp ≡ zeros (t .deltaPresent) → ds ≡ blank (length (t .deltas)) (pos 0) → sh ≡ zeros (t .splitHeights) → sliceTables ws hs sp sc dp ds sh ≡ clearedSlices t
 unfolding clearedSlices
 slices-cleared t a b c d e f g = rw (a, b, c, d, e, f, g)
+
+pub tables-cleared : (ids₀ columns₀ rows₀ : List ℕ) (slices₀ : SliceTables) (triples₀ : List (List ℤ)) {ids columns rows : List ℕ} {slices : SliceTables} {triples : List (List ℤ)} → ids ≡ zeros ids₀
+    → columns ≡ zeros columns₀ → rows ≡ zeros rows₀ → slices ≡ clearedSlices slices₀ → triples ≡ blank 6 (pos 0 ∷ pos 0 ∷ pos 0 ∷ [])
+    → lent ids columns rows slices triples ≡ cleared (lent ids₀ columns₀ rows₀ slices₀ triples₀)
+unfolding cleared
+tables-cleared ids₀ columns₀ rows₀ slices₀ triples₀ a b c d e = rw (a, b, c, d, e)

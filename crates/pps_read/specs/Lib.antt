@@ -1,5 +1,8 @@
-pub mod Parts
 pub mod Payload
-pub mod Ends
 pub mod Before
 pub mod Lending
+pub mod Answers
+pub mod Block
+pub mod RbspRead
+pub mod Cleared
+pub mod Whole

@@ -1,71 +1,139 @@
 // Reading a picture parameter set (the Rust's parse_pps).
+ghost use mathlib.Core.Bool.{true};
 ghost use mathlib.Core.Path.{_≡_};
 ghost use lib.ListN.{length};
-ghost use Rattle.bit_reader.specs.Reading.{trailingRead};
-ghost use Rattle.pps_syntax.specs.Rbsp.{beforeFields, behindExtension};
-ghost use Rattle.pps_read.specs.Ends.{extensionAt};
+ghost use Rattle.pps_syntax.specs.Rbsp.{readRbsp, readNal};
+ghost use Rattle.pps_syntax.specs.SliceTables.{sliceTables};
+ghost use Rattle.pps_read.specs.Answers.{answerOf};
+ghost use Rattle.pps_read.specs.Lending.{lent, tablesFit, afterFields, tablesAfter, workAfter};
+use answer::PpsRead;
+use clear::clear_tables;
+use lent::before_fields;
+use lent::tables_fit;
+use lent::unescape_payload;
+use rbsp::read_rbsp;
 
+pub mod answer;
 mod clear;
 mod lent;
-mod parts;
+mod rbsp;
 
-use bit_reader::Cursor;
-use h266::NalHeader;
-
-// The extension bits and the trailing bits: how many extension bits there are, and the cursor behind it all.
-pub struct EndRead {
-    pub bits: usize,
-    pub next: Cursor,
-}
-
-fn extension_bits(s: &[u8], flag: u8, c: Cursor) -> usize
-    ensures { λ r. ⌜ r ≡ extensionAt (now (s .entry)) flag c ⌝ }
+// Reads an RBSP into tables that are cleared before, and again where it is refused.
+fn read_into_cleared(
+    s: &[u8],
+    subpic_ids: &mut [u32],
+    tile_column_widths: &mut [u32],
+    tile_row_heights: &mut [u32],
+    slice_widths: &mut [u32],
+    slice_heights: &mut [u32],
+    split_present: &mut [u8],
+    split_counts: &mut [u32],
+    delta_present: &mut [u8],
+    deltas: &mut [i32],
+    split_heights: &mut [u32],
+    triples: &mut [[i32; 3]; 6],
+) -> PpsRead
+    requires { ⌜ tablesFit (length (now «subpic_ids»)) (length (now «tile_column_widths»)) (length (now «tile_row_heights»)) (length (now «slice_widths»)) (length (now «slice_heights»)) (length (now «split_present»)) (length (now «split_counts»)) (length (now «delta_present»)) (length (now deltas)) (length (now «split_heights»)) ≡ true ⌝ }
+    ensures answer { λ r. ⌜ r ≡ answerOf (readRbsp (now (s .entry))) ⌝ }
+    ensures tables { λ r. ⌜ lent (now («subpic_ids» .exit)) (now («tile_column_widths» .exit)) (now («tile_row_heights» .exit)) (sliceTables (now («slice_widths» .exit)) (now («slice_heights» .exit)) (now («split_present» .exit)) (now («split_counts» .exit)) (now («delta_present» .exit)) (now (deltas .exit)) (now («split_heights» .exit))) (now (triples .exit)) ≡ afterFields (readRbsp (now (s .entry))) (lent (now («subpic_ids» .entry)) (now («tile_column_widths» .entry)) (now («tile_row_heights» .entry)) (sliceTables (now («slice_widths» .entry)) (now («slice_heights» .entry)) (now («split_present» .entry)) (now («split_counts» .entry)) (now («delta_present» .entry)) (now (deltas .entry)) (now («split_heights» .entry))) (now (triples .entry))) ⌝ }
 {
-    if flag == 0 {
-        return 0;
-    }
-    if c.refused != 0 {
-        return 0;
-    }
-    bit_reader::extension_bits(s, c.at)
-}
-
-// 22 or 23 where the trailing bits are wrong, unless there is a refusal already.
-fn read_end(s: &[u8], flag: u8, c: Cursor) -> EndRead
-    ensures { λ r. ⌜ (r .bits ≡ extensionAt (now (s .entry)) flag c) × (r .next ≡ trailingRead (now (s .entry)) (behindExtension c (r .bits))) ⌝ }
-{
-    let bits = extension_bits(s, flag, c);
-    let at = c.at;
-    let to = at + bits;
-    let behind = Cursor {
-        at: to,
-        refused: c.refused,
-    };
-    let next = bit_reader::rbsp_trailing_bits(s, behind);
-    EndRead { bits, next }
-}
-
-// The tests before the first field, 1 to 5; 0 where they pass.
-fn before_fields(nal: &[u8], work_length: usize, tables_long: bool) -> u8
-    ensures { λ r. ⌜ r ≡ beforeFields (now (nal .entry)) «work_length» «tables_long» ⌝ }
-{
-    let h = h266::parse_nal_header(nal);
-    match h {
-        NalHeader::Refused(number) => number,
-        NalHeader::Header(header) => {
-            if header.nal_unit_type != 16 {
-                return 2;
-            }
-            if nal.len() > 65535 {
-                return 3;
-            }
-            if work_length < nal.len() - 2 {
-                return 4;
-            }
-            if !tables_long {
-                return 5;
-            }
-            0
+    clear_tables(
+        subpic_ids,
+        tile_column_widths,
+        tile_row_heights,
+        slice_widths,
+        slice_heights,
+        split_present,
+        split_counts,
+        delta_present,
+        deltas,
+        split_heights,
+        triples,
+    );
+    let read = read_rbsp(
+        s,
+        subpic_ids,
+        tile_column_widths,
+        tile_row_heights,
+        slice_widths,
+        slice_heights,
+        split_present,
+        split_counts,
+        delta_present,
+        deltas,
+        split_heights,
+        triples,
+    );
+    match read {
+        PpsRead::Accepted(a) => PpsRead::Accepted(a),
+        PpsRead::Refused(number) => {
+            clear_tables(
+                subpic_ids,
+                tile_column_widths,
+                tile_row_heights,
+                slice_widths,
+                slice_heights,
+                split_present,
+                split_counts,
+                delta_present,
+                deltas,
+                split_heights,
+                triples,
+            );
+            PpsRead::Refused(number)
         }
     }
+}
+
+// Reads a NAL unit with a picture parameter set. The work buffer takes the RBSP and the tables the lists, in use from the front, then zeros.
+pub fn parse_pps(
+    nal: &[u8],
+    work: &mut [u8],
+    subpic_ids: &mut [u32],
+    tile_column_widths: &mut [u32],
+    tile_row_heights: &mut [u32],
+    slice_widths: &mut [u32],
+    slice_heights: &mut [u32],
+    split_present: &mut [u8],
+    split_counts: &mut [u32],
+    delta_present: &mut [u8],
+    deltas: &mut [i32],
+    split_heights: &mut [u32],
+    triples: &mut [[i32; 3]; 6],
+) -> PpsRead
+    ensures answer { λ r. ⌜ r ≡ answerOf (readNal (now (nal .entry)) (length (now (work .entry))) (tablesFit (length (now («subpic_ids» .entry))) (length (now («tile_column_widths» .entry))) (length (now («tile_row_heights» .entry))) (length (now («slice_widths» .entry))) (length (now («slice_heights» .entry))) (length (now («split_present» .entry))) (length (now («split_counts» .entry))) (length (now («delta_present» .entry))) (length (now (deltas .entry))) (length (now («split_heights» .entry))))) ⌝ }
+    ensures work { λ r. ⌜ now (work .exit) ≡ workAfter (now (nal .entry)) (tablesFit (length (now («subpic_ids» .entry))) (length (now («tile_column_widths» .entry))) (length (now («tile_row_heights» .entry))) (length (now («slice_widths» .entry))) (length (now («slice_heights» .entry))) (length (now («split_present» .entry))) (length (now («split_counts» .entry))) (length (now («delta_present» .entry))) (length (now (deltas .entry))) (length (now («split_heights» .entry)))) (now (work .entry)) ⌝ }
+    ensures tables { λ r. ⌜ lent (now («subpic_ids» .exit)) (now («tile_column_widths» .exit)) (now («tile_row_heights» .exit)) (sliceTables (now («slice_widths» .exit)) (now («slice_heights» .exit)) (now («split_present» .exit)) (now («split_counts» .exit)) (now («delta_present» .exit)) (now (deltas .exit)) (now («split_heights» .exit))) (now (triples .exit)) ≡ tablesAfter (now (nal .entry)) (length (now (work .entry))) (tablesFit (length (now («subpic_ids» .entry))) (length (now («tile_column_widths» .entry))) (length (now («tile_row_heights» .entry))) (length (now («slice_widths» .entry))) (length (now («slice_heights» .entry))) (length (now («split_present» .entry))) (length (now («split_counts» .entry))) (length (now («delta_present» .entry))) (length (now (deltas .entry))) (length (now («split_heights» .entry)))) (lent (now («subpic_ids» .entry)) (now («tile_column_widths» .entry)) (now («tile_row_heights» .entry)) (sliceTables (now («slice_widths» .entry)) (now («slice_heights» .entry)) (now («split_present» .entry)) (now («split_counts» .entry)) (now («delta_present» .entry)) (now (deltas .entry)) (now («split_heights» .entry))) (now (triples .entry))) ⌝ }
+{
+    let fit = tables_fit(
+        subpic_ids.len(),
+        tile_column_widths.len(),
+        tile_row_heights.len(),
+        slice_widths.len(),
+        slice_heights.len(),
+        split_present.len(),
+        split_counts.len(),
+        delta_present.len(),
+        deltas.len(),
+        split_heights.len(),
+    );
+    let before = before_fields(nal, work.len(), fit);
+    if before != 0 {
+        return PpsRead::Refused(before);
+    }
+    let count = unescape_payload(nal, work);
+    read_into_cleared(
+        &work[..count],
+        subpic_ids,
+        tile_column_widths,
+        tile_row_heights,
+        slice_widths,
+        slice_heights,
+        split_present,
+        split_counts,
+        delta_present,
+        deltas,
+        split_heights,
+        triples,
+    )
 }

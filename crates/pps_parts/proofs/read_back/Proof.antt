@@ -5,10 +5,10 @@ use Rattle.syntax.specs.ReadSteps.{reads-done, reads}
 use Rattle.syntax.specs.Syntax.{parse}
 use Rattle.pps_syntax.specs.Chroma.{chroma}
 use Rattle.pps_syntax.specs.Pps.{back}
-use Rattle.pps_read.specs.Parts.{back-made, behind-chroma}
+use Rattle.pps_parts.specs.Parts.{back-made, behind-chroma}
 use borrow.Author.Needs.{needs}
-use Rattle.pps_read.proofs.parts.read_back.Statement.{statement}
-use Rattle.pps_read.proofs.parts.read_back.Tie as tie
+use Rattle.pps_parts.proofs.read_back.Statement.{statement}
+use Rattle.pps_parts.proofs.read_back.Tie as tie
 
 read-references-requires : tie.Need-read-references-requires
 read-references-requires c κs = search needs

@@ -2,10 +2,10 @@
 use mathlib.Core.Path.{_∙_, refl}
 use Rattle.syntax.specs.ReadSteps.{reads-done, reads}
 use Rattle.pps_syntax.specs.Pps.{front}
-use Rattle.pps_read.specs.Parts.{front-made}
+use Rattle.pps_parts.specs.Parts.{front-made}
 use borrow.Author.Needs.{needs}
-use Rattle.pps_read.proofs.parts.read_front.Statement.{statement}
-use Rattle.pps_read.proofs.parts.read_front.Tie as tie
+use Rattle.pps_parts.proofs.read_front.Statement.{statement}
+use Rattle.pps_parts.proofs.read_front.Tie as tie
 
 read-head-requires : tie.Need-read-head-requires
 read-head-requires c κs = search needs

@@ -1,8 +1,8 @@
 use mathlib.Core.Path.{_∙_}
-use Rattle.pps_read.specs.Ends.{extension-unset, extension-refused, extension-taken}
+use Rattle.pps_parts.specs.Ends.{extension-unset, extension-refused, extension-taken}
 use borrow.Author.Needs.{needs}
-use Rattle.pps_read.proofs.extension_bits.Statement.{statement}
-use Rattle.pps_read.proofs.extension_bits.Tie as tie
+use Rattle.pps_parts.proofs.end.extension_bits.Statement.{statement}
+use Rattle.pps_parts.proofs.end.extension_bits.Tie as tie
 
 returns : tie.Need-returns
 returns c = extension-unset _ _ _ (c .if1 .taken)

@@ -1,11 +1,9 @@
-use Prim.Native.Nat.{_+_}
-use mathlib.Core.Path.{_∙_}
 use native.Mathlib.Omega.{arith}
 use Rattle.bit_reader.specs.Extension.{extension-le}
-use Rattle.pps_read.specs.Ends.{extension-inside}
+use Rattle.pps_parts.specs.Ends.{extension-inside}
 use borrow.Author.Needs.{needs}
-use Rattle.pps_read.proofs.read_end.Statement.{statement}
-use Rattle.pps_read.proofs.read_end.Tie as tie
+use Rattle.pps_parts.proofs.end.read_end.Statement.{statement}
+use Rattle.pps_parts.proofs.end.read_end.Tie as tie
 
 extension-bits-requires : tie.Need-extension-bits-requires
 extension-bits-requires c κs = search needs

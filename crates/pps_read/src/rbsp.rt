@@ -1,0 +1,123 @@
+// The RBSP of a set (H.266 7.3.2.5), read into the lent tables.
+ghost use mathlib.Core.Bool.{true};
+ghost use mathlib.Core.Path.{_≡_};
+ghost use lib.ListN.{length};
+ghost use Rattle.pps_partition.specs.PartitionAnswer.{tablesLong};
+ghost use Rattle.pps_syntax.specs.Rbsp.{ReadSet, accepted, readRbsp};
+ghost use Rattle.pps_syntax.specs.SliceTables.{sliceTables};
+ghost use Rattle.syntax.specs.Elements.{oneIf};
+ghost use Rattle.pps_read.specs.Answers.{answerOf};
+ghost use Rattle.pps_read.specs.Block.{blocksRead, blockAnswer, BlocksPut};
+ghost use Rattle.pps_read.specs.Lending.{lent, putLists};
+use crate::answer::PpsRead;
+use crate::answer::answer_of;
+use bit_reader::Cursor;
+use pps_partition::PartitionRead;
+use pps_partition::read_partition;
+use pps_parts::end::read_end;
+use pps_parts::read_back;
+use pps_parts::read_front;
+use pps_record::VvcPpsPartition;
+
+// The partition block where there is one, zeros where there is none.
+fn read_block(
+    s: &[u8],
+    partitioned: bool,
+    width: u32,
+    height: u32,
+    tile_column_widths: &mut [u32],
+    tile_row_heights: &mut [u32],
+    slice_widths: &mut [u32],
+    slice_heights: &mut [u32],
+    split_present: &mut [u8],
+    split_counts: &mut [u32],
+    delta_present: &mut [u8],
+    deltas: &mut [i32],
+    split_heights: &mut [u32],
+    c: Cursor,
+) -> PartitionRead
+    requires { ⌜ tablesLong (length (now «tile_column_widths»)) (length (now «tile_row_heights»)) (length (now «split_heights»)) ≡ true ⌝ }
+    ensures answer { λ r. ⌜ r ≡ blockAnswer (blocksRead partitioned width height (now (s .entry)) c) ⌝ }
+    ensures tables { λ r. ⌜ (length (blocksRead partitioned width height (now (s .entry)) c .value) ≡ oneIf partitioned → BlocksPut (blocksRead partitioned width height (now (s .entry)) c .value) (now («tile_column_widths» .entry)) (now («tile_column_widths» .exit)) (now («tile_row_heights» .entry)) (now («tile_row_heights» .exit)) (sliceTables (now («slice_widths» .entry)) (now («slice_heights» .entry)) (now («split_present» .entry)) (now («split_counts» .entry)) (now («delta_present» .entry)) (now (deltas .entry)) (now («split_heights» .entry))) (sliceTables (now («slice_widths» .exit)) (now («slice_heights» .exit)) (now («split_present» .exit)) (now («split_counts» .exit)) (now («delta_present» .exit)) (now (deltas .exit)) (now («split_heights» .exit)))) ⌝ }
+{
+    if partitioned {
+        return read_partition(
+            s,
+            width,
+            height,
+            tile_column_widths,
+            tile_row_heights,
+            slice_widths,
+            slice_heights,
+            split_present,
+            split_counts,
+            delta_present,
+            deltas,
+            split_heights,
+            c,
+        );
+    }
+    PartitionRead {
+        value: VvcPpsPartition {
+            present: 0,
+            pps_log2_ctu_size_minus5: 0,
+            num_tile_column_widths: 0,
+            num_tile_row_heights: 0,
+            pps_loop_filter_across_tiles_enabled_flag: 0,
+            pps_rect_slice_flag: 0,
+            pps_single_slice_per_subpic_flag: 0,
+            pps_num_slices_in_pic_minus1: 0,
+            pps_tile_idx_delta_present_flag: 0,
+            num_rect_slices: 0,
+            pps_loop_filter_across_slices_enabled_flag: 0,
+        },
+        next: c,
+    }
+}
+
+// The whole set. After a refusal the tables hold what had been read by then.
+pub fn read_rbsp(
+    s: &[u8],
+    subpic_ids: &mut [u32],
+    tile_column_widths: &mut [u32],
+    tile_row_heights: &mut [u32],
+    slice_widths: &mut [u32],
+    slice_heights: &mut [u32],
+    split_present: &mut [u8],
+    split_counts: &mut [u32],
+    delta_present: &mut [u8],
+    deltas: &mut [i32],
+    split_heights: &mut [u32],
+    triples: &mut [[i32; 3]; 6],
+) -> PpsRead
+    requires { ⌜ tablesLong (length (now «tile_column_widths»)) (length (now «tile_row_heights»)) (length (now «split_heights»)) ≡ true ⌝ }
+    ensures answer { λ r. ⌜ r ≡ answerOf (readRbsp (now (s .entry))) ⌝ }
+    ensures tables { λ r. ⌜ ((a : ReadSet) → readRbsp (now (s .entry)) ≡ accepted a → lent (now («subpic_ids» .exit)) (now («tile_column_widths» .exit)) (now («tile_row_heights» .exit)) (sliceTables (now («slice_widths» .exit)) (now («slice_heights» .exit)) (now («split_present» .exit)) (now («split_counts» .exit)) (now («delta_present» .exit)) (now (deltas .exit)) (now («split_heights» .exit))) (now (triples .exit)) ≡ putLists (a .set) (lent (now («subpic_ids» .entry)) (now («tile_column_widths» .entry)) (now («tile_row_heights» .entry)) (sliceTables (now («slice_widths» .entry)) (now («slice_heights» .entry)) (now («split_present» .entry)) (now («split_counts» .entry)) (now («delta_present» .entry)) (now (deltas .entry)) (now («split_heights» .entry))) (now (triples .entry)))) ⌝ }
+{
+    let start = Cursor { at: 0, refused: 0 };
+    let front = read_front(s, subpic_ids, start);
+    let head = front.head;
+    let kind = front.kind;
+    let partitioned = kind.pps_no_pic_partition_flag == 0;
+    let block = read_block(
+        s,
+        partitioned,
+        head.pps_pic_width_in_luma_samples,
+        head.pps_pic_height_in_luma_samples,
+        tile_column_widths,
+        tile_row_heights,
+        slice_widths,
+        slice_heights,
+        split_present,
+        split_counts,
+        delta_present,
+        deltas,
+        split_heights,
+        front.next,
+    );
+    let partition = block.value;
+    let back = read_back(s, partitioned, triples, block.next);
+    let flags = back.picture_header;
+    let end = read_end(s, flags.pps_extension_flag, back.next);
+    answer_of(front, partition, back, end)
+}
