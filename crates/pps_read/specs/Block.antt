@@ -21,7 +21,7 @@ use Rattle.syntax.specs.Elements.{orElse, oneIf}
 use Rattle.syntax.specs.Lists.{many, none}
 use Rattle.syntax.specs.Syntax.{parse}
 use native.Mathlib.Omega.{arith}
-use Rattle.pps_read.specs.Lending.{columnsOf, rowsOf, slicesOf}
+use Rattle.pps_answer.specs.Lending.{columnsOf, rowsOf, slicesOf}
 
 -- the block as a list: of one, or empty where there is none or it is refused
 abbrev pub blocksRead : Bool → ℕ → ℕ → List ℕ → Cursor → Parsed (List PartitionBlock)

@@ -19,11 +19,11 @@ use Rattle.pps_syntax.specs.ReadAccepted.{read-partition-accepted, read-unparti
 use Rattle.pps_syntax.specs.Record.{rowOf}
 use Rattle.pps_syntax.specs.Pps.{partitioned}
 use Rattle.syntax.specs.Round.{and-parts}
-use Rattle.pps_read.specs.declared.answer.AcceptedPps.{AcceptedPps}
-use Rattle.pps_read.specs.declared.answer.PpsRead.{PpsRead}
-use Rattle.pps_read.specs.declared.answer.PpsRead.the-variants.{Accepted, Refused}
-use Rattle.pps_read.specs.Answers.{answerOf}
-use Rattle.pps_read.specs.Lending.{tablesFit, columnsOf, rowsOf, zeros, clearedSlices, cleared, filled, putLists, afterFields}
+use Rattle.pps_answer.specs.declared.AcceptedPps.{AcceptedPps}
+use Rattle.pps_answer.specs.declared.PpsRead.{PpsRead}
+use Rattle.pps_answer.specs.declared.PpsRead.the-variants.{Accepted, Refused}
+use Rattle.pps_answer.specs.Answers.{answerOf}
+use Rattle.pps_answer.specs.Lending.{tablesFit, columnsOf, rowsOf, zeros, clearedSlices, cleared, filled, putLists, afterFields}
 
 -- tables that have their stated lengths
 abbrev pub fitting : Lent → Bool

@@ -26,10 +26,10 @@ use Rattle.syntax.specs.Element.{Parsed, parsed}
 use Rattle.syntax.specs.Elements.{oneIf}
 use Rattle.syntax.specs.ReadSteps.{reads, reads-done}
 use Rattle.syntax.specs.Syntax.{parse}
-use Rattle.pps_read.specs.declared.answer.PpsRead.{PpsRead}
-use Rattle.pps_read.specs.Answers.{firstBit, recordFrom, answerOf, answerFrom}
+use Rattle.pps_answer.specs.declared.PpsRead.{PpsRead}
+use Rattle.pps_answer.specs.Answers.{firstBit, recordFrom, answerOf, answerFrom}
 use Rattle.pps_read.specs.Block.{blocksRead, blockAnswer, BlocksPut}
-use Rattle.pps_read.specs.Lending.{lent, putLists}
+use Rattle.pps_answer.specs.Lending.{lent, putLists}
 
 -- a set that was read has one block or none
 blocks-counted : (rbsp : List ℕ) (a : ReadSet) → readRbsp rbsp ≡ accepted a → length (a .set .partition) ≡ oneIf (partitioned (a .set .front .kind))

@@ -12,11 +12,11 @@ use Rattle.nal.specs.Lengths.{unescape-length}
 use Rattle.tables.specs.Tables.{over}
 use Rattle.pps_syntax.specs.FromRecord.{Lent}
 use Rattle.pps_syntax.specs.Rbsp.{readRbsp, readNal, beforeFields, rbspOf}
-use Rattle.pps_read.specs.declared.answer.PpsRead.{PpsRead}
-use Rattle.pps_read.specs.declared.answer.PpsRead.the-variants.{Refused}
-use Rattle.pps_read.specs.Answers.{answerOf}
-use Rattle.pps_read.specs.Before.{Passed, before-passed}
-use Rattle.pps_read.specs.Lending.{afterFields, tablesAfter, workAfter}
+use Rattle.pps_answer.specs.declared.PpsRead.{PpsRead}
+use Rattle.pps_answer.specs.declared.PpsRead.the-variants.{Refused}
+use Rattle.pps_answer.specs.Answers.{answerOf}
+use Rattle.pps_answer.specs.Before.{Passed, before-passed}
+use Rattle.pps_answer.specs.Lending.{afterFields, tablesAfter, workAfter}
 
 module _ (nal work : List ℕ) (fit : Bool) {said : Bool} (F : said ≡ fit) {n : ℕ} (B : n ≡ beforeFields nal (length work) said) where
   number-is : n ≡ beforeFields nal (length work) fit

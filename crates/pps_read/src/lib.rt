@@ -4,18 +4,16 @@ ghost use mathlib.Core.Path.{_≡_};
 ghost use lib.ListN.{length};
 ghost use Rattle.pps_syntax.specs.Rbsp.{readRbsp, readNal};
 ghost use Rattle.pps_syntax.specs.SliceTables.{sliceTables};
-ghost use Rattle.pps_read.specs.Answers.{answerOf};
-ghost use Rattle.pps_read.specs.Lending.{lent, tablesFit, afterFields, tablesAfter, workAfter};
-use answer::PpsRead;
-use clear::clear_tables;
-use lent::before_fields;
-use lent::tables_fit;
-use lent::unescape_payload;
+ghost use Rattle.pps_answer.specs.Answers.{answerOf};
+ghost use Rattle.pps_answer.specs.Lending.{lent, tablesFit, afterFields, tablesAfter, workAfter};
+use payload::unescape_payload;
+use pps_answer::PpsRead;
+use pps_answer::before::before_fields;
+use pps_answer::before::tables_fit;
+use pps_answer::clear::clear_tables;
 use rbsp::read_rbsp;
 
-pub mod answer;
-mod clear;
-mod lent;
+mod payload;
 mod rbsp;
 
 // Reads an RBSP into tables that are cleared before, and again where it is refused.

@@ -6,10 +6,6 @@ use Rattle.pps_read.specs.Whole.{refused-before, passed, front-is, front
 use borrow.Author.Needs.{needs}
 use Rattle.pps_read.proofs.parse_pps.Statement.{statement}
 use Rattle.pps_read.proofs.parse_pps.Tie as tie
-use Rattle.pps_read.proofs.lent.before_fields.Reads as before-fields-reads
-use Rattle.pps_read.proofs.lent.tables_fit.Reads as tables-fit-reads
-use Rattle.pps_read.proofs.lent.unescape_payload.Reads as unescape-payload-reads
-use Rattle.pps_read.proofs.read_into_cleared.Reads as read-into-cleared-reads
 
 tables-fit-requires : tie.Need-tables-fit-requires
 tables-fit-requires c κs = search needs

@@ -3,8 +3,6 @@ use Rattle.pps_read.specs.Cleared.{lengths, cleared-accepted, cleared-re
 use borrow.Author.Needs.{needs}
 use Rattle.pps_read.proofs.read_into_cleared.Statement.{statement}
 use Rattle.pps_read.proofs.read_into_cleared.Tie as tie
-use Rattle.pps_read.proofs.clear.clear_tables.Reads as clear-tables-reads
-use Rattle.pps_read.proofs.rbsp.read_rbsp.Reads as read-rbsp-reads
 
 clear-tables-requires : tie.Need-clear-tables-requires
 clear-tables-requires c κs = search needs

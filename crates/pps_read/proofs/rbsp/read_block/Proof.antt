@@ -3,7 +3,6 @@ use Rattle.pps_syntax.specs.Record.{partitionRecord}
 use borrow.Author.Needs.{needs}
 use Rattle.pps_read.proofs.rbsp.read_block.Statement.{statement}
 use Rattle.pps_read.proofs.rbsp.read_block.Tie as tie
-use Rattle.pps_partition.proofs.read_partition.Reads as read-partition-reads
 
 read-partition-requires : tie.Need-read-partition-requires
 read-partition-requires c κs = search needs

@@ -2,11 +2,6 @@ use Rattle.pps_read.specs.RbspRead.{answer-made, lists-made}
 use borrow.Author.Needs.{needs}
 use Rattle.pps_read.proofs.rbsp.read_rbsp.Statement.{statement}
 use Rattle.pps_read.proofs.rbsp.read_rbsp.Tie as tie
-use Rattle.pps_parts.proofs.end.read_end.Reads as read-end-reads
-use Rattle.pps_parts.proofs.read_back.Reads as read-back-reads
-use Rattle.pps_parts.proofs.read_front.Reads as read-front-reads
-use Rattle.pps_read.proofs.answer.answer_of.Reads as answer-of-reads
-use Rattle.pps_read.proofs.rbsp.read_block.Reads as read-block-reads
 
 read-front-requires : tie.Need-read-front-requires
 read-front-requires c κs = search needs

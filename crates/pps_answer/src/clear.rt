@@ -5,7 +5,7 @@ ghost use lib.IntN.{pos};
 ghost use lib.ListN.{length};
 ghost use Rattle.tables.specs.Tables.{blank};
 ghost use Rattle.pps_syntax.specs.SliceTables.{sliceTables};
-ghost use Rattle.pps_read.specs.Lending.{lent, clearedSlices, cleared};
+ghost use Rattle.pps_answer.specs.Lending.{lent, clearedSlices, cleared};
 use tables::clear_i32;
 use tables::clear_u8;
 use tables::clear_u32;

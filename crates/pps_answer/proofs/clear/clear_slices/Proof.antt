@@ -1,7 +1,7 @@
-use Rattle.pps_read.specs.Lending.{slices-cleared}
+use Rattle.pps_answer.specs.Lending.{slices-cleared}
 use borrow.Author.Needs.{needs}
-use Rattle.pps_read.proofs.clear.clear_slices.Statement.{statement}
-use Rattle.pps_read.proofs.clear.clear_slices.Tie as tie
+use Rattle.pps_answer.proofs.clear.clear_slices.Statement.{statement}
+use Rattle.pps_answer.proofs.clear.clear_slices.Tie as tie
 
 clear-u32-requires : tie.Need-clear-u32-requires
 clear-u32-requires c κs = search needs

@@ -1,12 +1,15 @@
 // What reading answers.
 ghost use mathlib.Core.Path.{_≡_};
-ghost use Rattle.pps_read.specs.Answers.{firstBit, answerFrom};
+ghost use Rattle.pps_answer.specs.Answers.{firstBit, answerFrom};
 use bit_reader::Cursor;
 use pps_parts::BackRead;
 use pps_parts::FrontRead;
 use pps_parts::end::EndRead;
 use pps_record::VvcPps;
 use pps_record::VvcPpsPartition;
+
+pub mod before;
+pub mod clear;
 
 // The record, and how many bytes of the RBSP the set took.
 pub struct AcceptedPps {

@@ -1,10 +1,10 @@
 use mathlib.Core.Path.{sym, _∙_}
 use native.Mathlib.Omega.{arith}
 use borrow.Author.Tests.{not-true, not-false}
-use Rattle.pps_read.specs.Before.{header-short, header-long, before-1, before-2, before-3, before-4, before-5, before-0}
+use Rattle.pps_answer.specs.Before.{header-short, header-long, before-1, before-2, before-3, before-4, before-5, before-0}
 use borrow.Author.Needs.{needs}
-use Rattle.pps_read.proofs.lent.before_fields.Statement.{statement}
-use Rattle.pps_read.proofs.lent.before_fields.Tie as tie
+use Rattle.pps_answer.proofs.before.before_fields.Statement.{statement}
+use Rattle.pps_answer.proofs.before.before_fields.Tie as tie
 
 parse-nal-header-requires : tie.Need-parse-nal-header-requires
 parse-nal-header-requires c κs = search needs

@@ -2,8 +2,8 @@
 use denote.Ref.{now}
 use Rattle.pps_read.specs.Payload.{payload-count, payload-out, payload-not-refused}
 use borrow.Author.Needs.{needs}
-use Rattle.pps_read.proofs.lent.unescape_payload.Statement.{statement}
-use Rattle.pps_read.proofs.lent.unescape_payload.Tie as tie
+use Rattle.pps_read.proofs.payload.unescape_payload.Statement.{statement}
+use Rattle.pps_read.proofs.payload.unescape_payload.Tie as tie
 
 sub-ebsp-to-rbsp : tie.Need-sub-ebsp-to-rbsp
 sub-ebsp-to-rbsp c = search needs

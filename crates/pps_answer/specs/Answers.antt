@@ -11,8 +11,8 @@ use Rattle.pps_parts.specs.declared.BackRead.{BackRead}
 use Rattle.pps_parts.specs.declared.end.EndRead.{EndRead}
 use Rattle.pps_syntax.specs.Rbsp.{ReadAnswer, accepted, refused}
 use Rattle.pps_syntax.specs.Record.{recordOf}
-use Rattle.pps_read.specs.declared.answer.PpsRead.{PpsRead}
-use Rattle.pps_read.specs.declared.answer.PpsRead.the-variants.{Accepted, Refused}
+use Rattle.pps_answer.specs.declared.PpsRead.{PpsRead}
+use Rattle.pps_answer.specs.declared.PpsRead.the-variants.{Accepted, Refused}
 
 abbrev pub acceptedPps : VvcPps → ℕ → PpsRead
 acceptedPps pps taken = Accepted (record { pps = pps; «bytes_taken» = taken })

@@ -1,10 +1,7 @@
-use Rattle.pps_read.specs.Lending.{tables-cleared}
+use Rattle.pps_answer.specs.Lending.{tables-cleared}
 use borrow.Author.Needs.{needs}
-use Rattle.pps_read.proofs.clear.clear_tables.Statement.{statement}
-use Rattle.pps_read.proofs.clear.clear_tables.Tie as tie
-use Rattle.pps_read.proofs.clear.clear_slices.Reads as clear-slices-reads
-use Rattle.pps_read.proofs.clear.clear_triples.Reads as clear-triples-reads
-use Rattle.tables.proofs.clear_u32.Reads as clear-u32-reads
+use Rattle.pps_answer.proofs.clear.clear_tables.Statement.{statement}
+use Rattle.pps_answer.proofs.clear.clear_tables.Tie as tie
 
 clear-u32-requires : tie.Need-clear-u32-requires
 clear-u32-requires c κs = search needs

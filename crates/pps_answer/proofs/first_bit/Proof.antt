@@ -1,6 +1,6 @@
-use Rattle.pps_read.specs.Answers.{first-none, first-some}
-use Rattle.pps_read.proofs.answer.first_bit.Statement.{statement}
-use Rattle.pps_read.proofs.answer.first_bit.Tie as tie
+use Rattle.pps_answer.specs.Answers.{first-none, first-some}
+use Rattle.pps_answer.proofs.first_bit.Statement.{statement}
+use Rattle.pps_answer.proofs.first_bit.Tie as tie
 
 returns : tie.Need-returns
 returns c = first-none _ _ (c .if1 .taken)

@@ -1,12 +1,8 @@
-// What a caller lends: whether the tables are long enough, and the work buffer.
+// The tests before the first field.
 ghost use mathlib.Core.Path.{_≡_};
-ghost use Prim.Native.Nat.{_-_, _≤_};
-ghost use lib.ListN.{length};
-ghost use Rattle.tables.specs.Tables.{over};
-ghost use Rattle.pps_read.specs.Lending.{tablesFit};
-ghost use Rattle.pps_syntax.specs.Rbsp.{beforeFields, rbspOf};
+ghost use Rattle.pps_answer.specs.Lending.{tablesFit};
+ghost use Rattle.pps_syntax.specs.Rbsp.{beforeFields};
 use h266::NalHeader;
-use nal::ByteCount;
 use pps_record::lengths;
 
 // By their lengths, in the order in which the tables are lent.
@@ -34,21 +30,6 @@ pub fn tables_fit(
     (subpic_ids >= lengths::SUBPIC_IDS)
         & ((tile_column_widths >= lengths::TILE_COLUMN_WIDTHS)
             & ((tile_row_heights >= lengths::TILE_ROW_HEIGHTS) & slices))
-}
-
-// Puts the payload without its escape bytes into the front of the work buffer; the number of these bytes.
-pub fn unescape_payload(unit: &[u8], work: &mut [u8]) -> usize
-    requires { ⌜ 2 ≤ length (now unit) ⌝ }
-    requires { ⌜ length (now unit) ≤ 65535 ⌝ }
-    requires { ⌜ length (now unit) - 2 ≤ length (now work) ⌝ }
-    ensures { λ r. ⌜ r ≡ length (rbspOf (now (unit .entry))) ⌝ }
-    ensures { λ _. ⌜ now (work .exit) ≡ over (rbspOf (now (unit .entry))) (now (work .entry)) ⌝ }
-{
-    let n = nal::ebsp_to_rbsp(&unit[2..], work);
-    match n {
-        ByteCount::Bytes(count) => count,
-        ByteCount::Refused(_number) => 0,
-    }
 }
 
 // The tests before the first field, 1 to 5; 0 where they pass.

@@ -1,10 +1,9 @@
 use mir.Facts.{toZ-ofZ}
 use mir.Syntax.{w32}
-use Rattle.pps_read.specs.Answers.{recordFrom, answer-refused, answer-accepted}
+use Rattle.pps_answer.specs.Answers.{recordFrom, answer-refused, answer-accepted}
 use borrow.Author.Needs.{needs}
-use Rattle.pps_read.proofs.answer.answer_of.Statement.{statement}
-use Rattle.pps_read.proofs.answer.answer_of.Tie as tie
-use Rattle.pps_read.proofs.answer.first_bit.Reads as first-bit-reads
+use Rattle.pps_answer.proofs.answer_of.Statement.{statement}
+use Rattle.pps_answer.proofs.answer_of.Tie as tie
 
 returns : tie.Need-returns
 returns c = answer-refused _ _ _ _ (c .if1 .taken)

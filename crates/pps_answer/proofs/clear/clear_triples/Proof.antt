@@ -1,7 +1,7 @@
 use Rattle.tables.specs.Tables.{blank}
 use borrow.Author.Needs.{needs}
-use Rattle.pps_read.proofs.clear.clear_triples.Statement.{statement}
-use Rattle.pps_read.proofs.clear.clear_triples.Tie as tie
+use Rattle.pps_answer.proofs.clear.clear_triples.Statement.{statement}
+use Rattle.pps_answer.proofs.clear.clear_triples.Tie as tie
 
 returns : tie.Need-returns
 unfolding blank

@@ -1,0 +1,3 @@
+pub mod Lending
+pub mod Before
+pub mod Answers
