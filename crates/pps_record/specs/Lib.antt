@@ -1,1 +1,2 @@
 pub mod Ctbs
+pub mod Absent

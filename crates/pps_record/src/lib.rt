@@ -3,6 +3,7 @@
 ghost use mathlib.Core.Path.{_≡_};
 ghost use Prim.Native.Nat.{min};
 ghost use Rattle.partition.specs.Partition.{inCtbs};
+ghost use Rattle.pps_record.specs.Absent.{noPartition};
 ghost use Rattle.pps_record.specs.Ctbs.{ctbsOf};
 
 pub mod groups;
@@ -165,6 +166,27 @@ fn pic_ctbs(samples: u32, partition_present: u8, log2_ctu_size_minus5: u8) -> Ct
         return Ctbs::Refused(9);
     }
     Ctbs::Count(in_ctbs(samples, log2_ctu_size_minus5))
+}
+
+impl VvcPpsPartition {
+    // The block of a set that has none: zeros.
+    pub fn absent() -> VvcPpsPartition
+        ensures { λ r. ⌜ r ≡ noPartition ⌝ }
+    {
+        VvcPpsPartition {
+            present: 0,
+            pps_log2_ctu_size_minus5: 0,
+            num_tile_column_widths: 0,
+            num_tile_row_heights: 0,
+            pps_loop_filter_across_tiles_enabled_flag: 0,
+            pps_rect_slice_flag: 0,
+            pps_single_slice_per_subpic_flag: 0,
+            pps_num_slices_in_pic_minus1: 0,
+            pps_tile_idx_delta_present_flag: 0,
+            num_rect_slices: 0,
+            pps_loop_filter_across_slices_enabled_flag: 0,
+        }
+    }
 }
 
 impl VvcPps {

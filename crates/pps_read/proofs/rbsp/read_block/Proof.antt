@@ -1,5 +1,7 @@
-use Rattle.pps_read.specs.Block.{block-made, no-block}
+use mathlib.Core.Path.{refl}
+use Rattle.pps_record.specs.Absent.{noPartition}
 use Rattle.pps_syntax.specs.Record.{partitionRecord}
+use Rattle.pps_read.specs.Block.{block-made, no-block}
 use borrow.Author.Needs.{needs}
 use Rattle.pps_read.proofs.rbsp.read_block.Statement.{statement}
 use Rattle.pps_read.proofs.rbsp.read_block.Tie as tie
@@ -37,9 +39,12 @@ same-length-9 c = search needs
 returns : tie.Need-returns
 returns c = block-made _ _ _ _ _ _ _ _ _ _ _ _ _ (c .before .before .before .before .before .before .before .before .before .before .before .before .before .before .before .before .before .before .before .before .before .before .before .before .before .before .before .if1 .taken) (c .before .before .before .before .before .before .before .before .before .before .before .before .before .before .before .before .before .before .before .before .before .before .before .before .before .before .before .before .before .before .before .before .before .before .before .before .before .pre) (c .before .before .before .before .before .before .before .before .before .before .before .before .before .before .before .before .before .read-partition .ensures)
 
+absent-requires : tie.Need-absent-requires
+absent-requires c κs = search needs
+
 returns-2 : tie.Need-returns-2
-unfolding partitionRecord
-returns-2 c = no-block _ _ _ _ _ _ _ _ (c .if1 .left)
+unfolding partitionRecord noPartition
+returns-2 c = rw (c .absent .ensures) (no-block _ _ _ _ _ _ _ _ (c .before .if1 .left))
 
 pub read-block-spec : {M : Type 1} → statement M
 read-block-spec =
@@ -56,4 +61,5 @@ read-block-spec =
     same-length-8
     same-length-9
     returns
+    absent-requires
     returns-2)
