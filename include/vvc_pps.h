@@ -1,8 +1,8 @@
 /* The C interface of the H.266 (VVC) picture parameter set library; link libvvc_pps.a.
  *
- * Bytes are handed over as a pointer and a length. The pointer is not null, even where the length is 0, and `out` overlaps nothing else
- * that is handed over. `refused` is 0 or the number of a refusal, and the values beside a refusal are 0. Nothing is allocated and
- * nothing is kept between calls, so that any thread may call any function. */
+ * Bytes and tables are handed over as a pointer and a length. The pointer is not null, even where the length is 0, and what a function
+ * may change overlaps nothing else that is handed over. `refused` is 0 or the number of a refusal, and the values beside a refusal are
+ * 0. Nothing is allocated and nothing is kept between calls, so that any thread may call any function. */
 #ifndef VVC_PPS_H
 #define VVC_PPS_H
 
@@ -101,6 +101,125 @@ typedef struct VvcSink {
     uint8_t refused;
 } VvcSink;
 
+/* The lengths that the tables of a picture parameter set have at least. */
+enum {
+    VVC_SUBPIC_IDS = 1000,
+    VVC_TILE_COLUMN_WIDTHS = 30,
+    VVC_TILE_ROW_HEIGHTS = 990,
+    VVC_RECT_SLICES = 999, /* each of the six tables of the slice entries */
+    VVC_SPLIT_HEIGHTS = 1000,
+};
+
+/* A picture parameter set (H.266 7.3.2.5). A field that is not coded has its inferred value, and an absent block (`present` 0) is 0
+ * throughout. Flags are 0 or 1. */
+
+typedef struct VvcPpsConfWinOffsets {
+    uint8_t present; /* pps_conformance_window_flag */
+    uint32_t pps_conf_win_left_offset;
+    uint32_t pps_conf_win_right_offset;
+    uint32_t pps_conf_win_top_offset;
+    uint32_t pps_conf_win_bottom_offset;
+} VvcPpsConfWinOffsets;
+
+typedef struct VvcPpsScalingWinOffsets {
+    uint8_t present; /* pps_scaling_window_explicit_signalling_flag */
+    int32_t pps_scaling_win_left_offset;
+    int32_t pps_scaling_win_right_offset;
+    int32_t pps_scaling_win_top_offset;
+    int32_t pps_scaling_win_bottom_offset;
+} VvcPpsScalingWinOffsets;
+
+/* The ids are the first `num_subpic_ids` of their table. */
+typedef struct VvcPpsSubpicIdMapping {
+    uint8_t present; /* pps_subpic_id_mapping_present_flag */
+    uint32_t pps_num_subpics_minus1;
+    uint32_t pps_subpic_id_len_minus1;
+    uint32_t num_subpic_ids;
+} VvcPpsSubpicIdMapping;
+
+/* The explicit tile sizes, as coded (minus 1), and the slice entries are the first so many of their tables. */
+typedef struct VvcPpsPartition {
+    uint8_t present; /* pps_no_pic_partition_flag is 0 */
+    uint8_t pps_log2_ctu_size_minus5;
+    uint32_t num_tile_column_widths;
+    uint32_t num_tile_row_heights;
+    uint8_t pps_loop_filter_across_tiles_enabled_flag;
+    uint8_t pps_rect_slice_flag;
+    uint8_t pps_single_slice_per_subpic_flag;
+    uint32_t pps_num_slices_in_pic_minus1;
+    uint8_t pps_tile_idx_delta_present_flag;
+    uint32_t num_rect_slices;
+    uint8_t pps_loop_filter_across_slices_enabled_flag;
+} VvcPpsPartition;
+
+/* The list is the first `cu_chroma_qp_offset_list_len` of the triples; their third offsets are coded where the joint flag is 1. */
+typedef struct VvcPpsChromaToolOffsets {
+    uint8_t present; /* pps_chroma_tool_offsets_present_flag */
+    int32_t pps_cb_qp_offset;
+    int32_t pps_cr_qp_offset;
+    uint8_t pps_joint_cbcr_qp_offset_present_flag;
+    int32_t pps_joint_cbcr_qp_offset_value;
+    uint8_t pps_slice_chroma_qp_offsets_present_flag;
+    uint8_t pps_cu_chroma_qp_offset_list_enabled_flag;
+    uint32_t cu_chroma_qp_offset_list_len;
+} VvcPpsChromaToolOffsets;
+
+typedef struct VvcPpsDeblocking {
+    uint8_t present; /* pps_deblocking_filter_control_present_flag */
+    uint8_t pps_deblocking_filter_override_enabled_flag;
+    uint8_t pps_deblocking_filter_disabled_flag;
+    uint8_t pps_dbf_info_in_ph_flag;
+    int32_t pps_luma_beta_offset_div2;
+    int32_t pps_luma_tc_offset_div2;
+    int32_t pps_cb_beta_offset_div2;
+    int32_t pps_cb_tc_offset_div2;
+    int32_t pps_cr_beta_offset_div2;
+    int32_t pps_cr_tc_offset_div2;
+} VvcPpsDeblocking;
+
+typedef struct VvcPps {
+    uint8_t pps_pic_parameter_set_id;
+    uint8_t pps_seq_parameter_set_id;
+    uint8_t pps_mixed_nalu_types_in_pic_flag;
+    uint32_t pps_pic_width_in_luma_samples;
+    uint32_t pps_pic_height_in_luma_samples;
+    VvcPpsConfWinOffsets pps_conf_win_offsets;
+    VvcPpsScalingWinOffsets pps_scaling_win_offsets;
+    uint8_t pps_output_flag_present_flag;
+    uint8_t pps_no_pic_partition_flag;
+    VvcPpsSubpicIdMapping subpic_id_mapping;
+    VvcPpsPartition partition;
+    uint8_t pps_cabac_init_present_flag;
+    uint32_t pps_num_ref_idx_default_active_minus1_l0;
+    uint32_t pps_num_ref_idx_default_active_minus1_l1;
+    uint8_t pps_rpl1_idx_present_flag;
+    uint8_t pps_weighted_pred_flag;
+    uint8_t pps_weighted_bipred_flag;
+    uint8_t pps_ref_wraparound_enabled_flag;
+    uint32_t pps_pic_width_minus_wraparound_offset;
+    int32_t pps_init_qp_minus26;
+    uint8_t pps_cu_qp_delta_enabled_flag;
+    VvcPpsChromaToolOffsets chroma_tool_offsets;
+    VvcPpsDeblocking deblocking;
+    uint8_t pps_rpl_info_in_ph_flag;
+    uint8_t pps_sao_info_in_ph_flag;
+    uint8_t pps_alf_info_in_ph_flag;
+    uint8_t pps_wp_info_in_ph_flag;
+    uint8_t pps_qp_delta_info_in_ph_flag;
+    uint8_t pps_picture_header_extension_present_flag;
+    uint8_t pps_slice_header_extension_present_flag;
+    uint8_t pps_extension_flag;
+    size_t pps_extension_data_first_bit; /* the extension bits lie in the work buffer: the first of them, from its first bit on, */
+    size_t pps_extension_data_bits;      /* and how many there are; 0 and 0 without any */
+} VvcPps;
+
+/* The set took the first `bytes_taken` bytes of the work buffer. */
+typedef struct VvcPpsRead {
+    uint8_t refused;
+    size_t bytes_taken;
+    VvcPps pps;
+} VvcPpsRead;
+
 /* Takes the escape bytes out of a payload (H.266 7.4.2.1). Refusals: 3 for more than 65,535 bytes, 4 where `out` is shorter than the
  * payload. Only the bytes reported are changed. */
 VvcByteCount vvc_ebsp_to_rbsp(const uint8_t *ebsp, size_t ebsp_len, uint8_t *out, size_t out_len);
@@ -111,6 +230,22 @@ VvcByteCount vvc_rbsp_to_ebsp(const uint8_t *rbsp, size_t rbsp_len, uint8_t *out
 
 /* The header at the front of a NAL unit. Refusal: 1 for fewer than 2 bytes. Forbidden and reserved bits are not tested. */
 VvcNalHeaderRead vvc_parse_nal_header(const uint8_t *nal, size_t nal_len);
+
+/* Reads a NAL unit that holds a picture parameter set, its 2-byte header included. Refusals: 1 to 23, 1 to 5 first and in that order.
+ *
+ * Lent are a work buffer of at least the NAL unit's length - 2 bytes (else 4), which takes the payload without its escape bytes, and
+ * tables of at least these lengths (else 5): `subpic_ids` 1,000; `tile_column_widths` 30; `tile_row_heights` 990; `slice_widths` to
+ * `deltas` 999 each, one place a slice entry; `split_heights` 1,000, of which each entry takes its split count, in order; `triples` 6.
+ * Sizes, heights and widths are as coded, minus 1. Where an entry has a split count or a delta, its place in `split_present` or
+ * `delta_present` is 1.
+ *
+ * After 1 to 5 nothing lent has changed. Otherwise the work buffer starts with the payload, its rest as before, and the tables have
+ * the entries in use, then zeros to their ends; after 6 to 23, zeros throughout. */
+VvcPpsRead vvc_parse_pps(const uint8_t *nal, size_t nal_len, uint8_t *work, size_t work_len, uint32_t *subpic_ids, size_t subpic_ids_len,
+    uint32_t *tile_column_widths, size_t tile_column_widths_len, uint32_t *tile_row_heights, size_t tile_row_heights_len,
+    uint32_t *slice_widths, size_t slice_widths_len, uint32_t *slice_heights, size_t slice_heights_len, uint8_t *split_present,
+    size_t split_present_len, uint32_t *split_counts, size_t split_counts_len, uint8_t *delta_present, size_t delta_present_len,
+    int32_t *deltas, size_t deltas_len, uint32_t *split_heights, size_t split_heights_len, int32_t triples[6][3]);
 
 /* The number of bits of the ue(v) code of `v` (H.266 9.2). Refusal: 25 for 4294967295. */
 VvcUeSize vvc_ue_size(uint32_t v);

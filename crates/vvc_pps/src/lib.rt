@@ -16,6 +16,10 @@ ghost use Rattle.codes.specs.Symbols.{putting};
 ghost use Rattle.bit_writer.specs.Writing.{sinkOver, fresh, play, closed};
 ghost use Rattle.bit_writer.specs.Answers.{answerOf};
 ghost use Rattle.vvc_pps.specs.Answers.{byteCount, nalHeader, ueSize};
+
+mod no_pps;
+pub mod reading;
+
 use bit_reader::BitsRead;
 use bit_reader::Cursor;
 use bit_reader::SignedRead;

@@ -1,6 +1,7 @@
 //! What the calls cost. Times are the best of several rounds, in nanoseconds per call, read or
 //! write.
 
+mod reading;
 mod writing;
 
 use crate::ours::{self, Cursor};
@@ -20,16 +21,21 @@ pub fn run() {
     );
     let mut random = Random::new(1, "bench");
     escaping(&mut random);
-    reading(&mut random);
+    bits(&mut random);
     extension_bits();
     writing::run(&mut random);
+    reading::run();
 }
 
-/// The time of a call in nanoseconds.
+/// The time of a call in nanoseconds. A call of a second and more is made once.
 fn time<T>(mut call: impl FnMut() -> T) -> f64 {
-    let first = Instant::now();
+    let start = Instant::now();
     black_box(call());
-    let calls = (ROUND.as_nanos() / first.elapsed().as_nanos().max(1)).clamp(1, 1_000_000) as u32;
+    let first = start.elapsed();
+    if first >= Duration::from_secs(1) {
+        return first.as_secs_f64() * 1e9;
+    }
+    let calls = (ROUND.as_nanos() / first.as_nanos().max(1)).clamp(1, 1_000_000) as u32;
     let round = || {
         let start = Instant::now();
         for _ in 0..calls {
@@ -95,7 +101,7 @@ fn reads(
     row(name, ours / reads as f64, Some(original / reads as f64));
 }
 
-fn reading(random: &mut Random) {
+fn bits(random: &mut Random) {
     let bytes: Vec<u8> = (0..4096).map(|_| random.byte()).collect();
     for (name, n) in [("flag, u(1)", 1), ("u(4)", 4), ("u(32)", 32)] {
         let n = black_box(n);

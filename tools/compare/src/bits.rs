@@ -9,6 +9,7 @@ use original::{BitstreamError, bit_reader::BitReader};
 pub const AREA: Area = Area {
     name: "bits",
     weight: 4,
+    reach: &[],
     exhaustive: cases::exhaustive,
     random: cases::random,
 };

@@ -8,6 +8,7 @@ use original::nal;
 pub const AREA: Area = Area {
     name: "escaping",
     weight: 4,
+    reach: &[],
     exhaustive,
     random,
 };

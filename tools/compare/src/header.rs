@@ -8,6 +8,7 @@ use original::{BitstreamError, h266};
 pub const AREA: Area = Area {
     name: "header",
     weight: 1,
+    reach: &[],
     exhaustive,
     random,
 };

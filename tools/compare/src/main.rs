@@ -7,6 +7,7 @@ mod escape;
 mod header;
 mod ours;
 mod random;
+mod reading;
 mod sizes;
 mod tally;
 mod writing;
@@ -21,6 +22,7 @@ const AREAS: &[Area] = &[
     bits::AREA,
     sizes::AREA,
     writing::AREA,
+    reading::AREA,
 ];
 
 fn main() -> ExitCode {
@@ -44,21 +46,23 @@ fn compare(count: u64, seed: u64) -> ExitCode {
     let weights: u64 = AREAS.iter().map(|area| area.weight).sum();
     let share = |weight: u64| (u128::from(count) * u128::from(weight) / u128::from(weights)) as u64;
     let (mut cases, mut differences, mut weight) = (0, 0, 0);
+    let mut good = true;
     for area in AREAS {
         let from = share(weight);
         weight += area.weight;
         let tally = area.run(seed, share(weight) - from);
-        tally.print(area.name);
+        tally.print(area);
+        good &= tally.is_good();
         cases += tally.cases;
         differences += tally.differences;
     }
     println!("{cases} compared, {differences} differ");
-    ExitCode::from(u8::from(differences != 0))
+    ExitCode::from(u8::from(!good))
 }
 
 impl Area {
     fn run(&self, seed: u64, count: u64) -> Tally {
-        let mut tally = Tally::default();
+        let mut tally = Tally::new(self);
         (self.exhaustive)(&mut tally);
         let mut random = Random::new(seed, self.name);
         for _ in 0..count {

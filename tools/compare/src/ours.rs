@@ -1,5 +1,12 @@
 //! The library's C interface (include/vvc_pps.h), with safe functions over it.
 
+mod pps;
+
+pub use pps::{
+    ChromaToolOffsets, ConfWinOffsets, Deblocking, Partition, Pps, PpsRead, ScalingWinOffsets,
+    SubpicIdMapping, Tables, parse_pps,
+};
+
 #[repr(C)]
 #[derive(Clone, Debug, PartialEq)]
 pub struct ByteCount {
@@ -101,7 +108,7 @@ unsafe extern "C" {
     safe fn vvc_sink_answer(w: Sink, room: usize) -> ByteCount;
 }
 
-// The calls are safe: a slice is valid for its length, and `out`, lent by `&mut`, overlaps none.
+// The calls are safe: a slice is valid for its length, and what is lent by `&mut` overlaps nothing.
 
 pub fn ebsp_to_rbsp(ebsp: &[u8], out: &mut [u8]) -> ByteCount {
     unsafe { vvc_ebsp_to_rbsp(ebsp.as_ptr(), ebsp.len(), out.as_mut_ptr(), out.len()) }

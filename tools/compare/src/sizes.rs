@@ -8,6 +8,7 @@ use original::{BitstreamError, bit_writer::BitWriter};
 pub const AREA: Area = Area {
     name: "sizes",
     weight: 2,
+    reach: &[],
     exhaustive,
     random,
 };

@@ -7,6 +7,8 @@ pub struct Area {
     pub name: &'static str,
     /// Its part of the random inputs, beside the weights of the others.
     pub weight: u64,
+    /// What its cases are to reach, each at least once.
+    pub reach: &'static [&'static str],
     pub exhaustive: fn(&mut Tally),
     /// Makes a random input and compares on it.
     pub random: fn(&mut Random, &mut Tally),
@@ -16,11 +18,24 @@ pub struct Area {
 pub struct Tally {
     pub cases: u64,
     pub differences: u64,
+    /// How often each of the area's `reach` was reached.
+    reached: Vec<u64>,
     /// The size of the smallest input with a difference, and what to print of it.
     smallest: Option<(usize, String)>,
 }
 
 impl Tally {
+    pub fn new(area: &Area) -> Self {
+        Tally {
+            reached: vec![0; area.reach.len()],
+            ..Tally::default()
+        }
+    }
+
+    pub fn reached(&mut self, place_in_reach: usize) {
+        self.reached[place_in_reach] += 1;
+    }
+
     /// Counts a case. `input` describes an input of `size` bytes where the answers differ.
     pub fn compare<A: PartialEq + Debug>(
         &mut self,
@@ -41,11 +56,33 @@ impl Tally {
         }
     }
 
-    pub fn print(&self, name: &str) {
+    /// Whether nothing differs and all was reached.
+    pub fn is_good(&self) -> bool {
+        self.differences == 0 && !self.reached.contains(&0)
+    }
+
+    pub fn print(&self, area: &Area) {
         println!(
-            "{name:<10} {:>9} cases {:>9} differ",
-            self.cases, self.differences
+            "{:<10} {:>9} cases {:>9} differ",
+            area.name, self.cases, self.differences
         );
+        let reached: Vec<String> = area
+            .reach
+            .iter()
+            .zip(&self.reached)
+            .map(|(what, times)| format!("{what}: {times}"))
+            .collect();
+        for line in reached.chunks(8) {
+            println!("  {}", line.join(", "));
+        }
+        for (what, _) in area
+            .reach
+            .iter()
+            .zip(&self.reached)
+            .filter(|&(_, &n)| n == 0)
+        {
+            println!("  NEVER REACHED: {what}");
+        }
         if let Some((_, report)) = &self.smallest {
             println!("{report}");
         }

@@ -10,6 +10,7 @@ use original::{BitstreamError, bit_writer::BitWriter, nal};
 pub const AREA: Area = Area {
     name: "writing",
     weight: 6,
+    reach: &[],
     exhaustive: cases::exhaustive,
     random: cases::random,
 };

@@ -1,0 +1,181 @@
+//! What reading is lent: the work buffer and the tables, of any lengths, filled before the call, and
+//! a few places behind each that nobody may touch.
+
+use crate::escape::GUARD;
+use crate::ours::{self, PpsRead, Tables};
+use crate::random::Random;
+use std::fmt::{self, Debug};
+
+/// The least lengths of the tables, in the order in which they are lent.
+pub const LEAST: [usize; 10] = [1000, 30, 990, 999, 999, 999, 999, 999, 999, 1000];
+
+#[derive(Clone, Copy, Debug, PartialEq)]
+pub struct Lengths {
+    pub work: usize,
+    pub tables: [usize; 10],
+}
+
+impl Lengths {
+    /// Just long enough for a unit.
+    pub fn least(nal: &[u8]) -> Self {
+        Lengths {
+            work: nal.len().saturating_sub(2),
+            tables: LEAST,
+        }
+    }
+
+    /// Mostly long enough; else short in one place or in many.
+    pub fn random(random: &mut Random, nal: &[u8]) -> Self {
+        let mut lengths = Lengths::least(nal);
+        match random.below(32) {
+            0 => lengths.work = random.below(lengths.work + 1),
+            1 => {
+                let table = random.below(LEAST.len());
+                lengths.tables[table] = random.below(LEAST[table]);
+            }
+            2 => {
+                let table = random.below(LEAST.len());
+                lengths.tables[table] = LEAST[table] - 1;
+            }
+            3 => {
+                lengths.work = random.below(lengths.work + 2);
+                lengths.tables = LEAST.map(|least| random.below(2 * least));
+            }
+            4..8 => {
+                lengths.work += random.below(100);
+                lengths.tables = LEAST.map(|least| least + random.below(40));
+            }
+            _ => {}
+        }
+        lengths
+    }
+
+    pub fn tables_long(&self) -> bool {
+        self.tables
+            .iter()
+            .zip(LEAST)
+            .all(|(&len, least)| len >= least)
+    }
+}
+
+/// A lent slice with the places behind it.
+#[derive(Clone, PartialEq)]
+pub struct Table<T> {
+    places: Vec<T>,
+    len: usize,
+}
+
+impl<T: Copy> Table<T> {
+    fn new(len: usize, filled_with: T) -> Self {
+        Table {
+            places: vec![filled_with; len + GUARD],
+            len,
+        }
+    }
+
+    pub fn lent(&mut self) -> &mut [T] {
+        &mut self.places[..self.len]
+    }
+}
+
+impl<T: Copy + Default> Table<T> {
+    pub fn clear(&mut self) {
+        self.lent().fill(T::default());
+    }
+
+    /// Puts values at the front. There are at most as many as the least length.
+    pub fn put(&mut self, values: impl IntoIterator<Item = T>) {
+        let places = self.places[..self.len].iter_mut();
+        for (place, value) in places.zip(values) {
+            *place = value;
+        }
+    }
+}
+
+impl<T: PartialEq + Debug> Debug for Table<T> {
+    fn fmt(&self, f: &mut fmt::Formatter<'_>) -> fmt::Result {
+        Runs(&self.places).fmt(f)
+    }
+}
+
+/// Values of which equal neighbours are printed once, with how many there are.
+#[derive(PartialEq)]
+pub struct Runs<'a, T>(pub &'a [T]);
+
+impl<T: PartialEq + Debug> Debug for Runs<'_, T> {
+    fn fmt(&self, f: &mut fmt::Formatter<'_>) -> fmt::Result {
+        let run = |run: &[T]| match run.len() {
+            1 => format!("{:?}", run[0]),
+            n => format!("{n} × {:?}", run[0]),
+        };
+        let runs: Vec<String> = self.0.chunk_by(|a, b| a == b).map(run).collect();
+        write!(f, "[{}]", runs.join(", "))
+    }
+}
+
+#[derive(Clone, Debug, PartialEq)]
+pub struct Lent {
+    pub work: Table<u8>,
+    pub subpic_ids: Table<u32>,
+    pub tile_column_widths: Table<u32>,
+    pub tile_row_heights: Table<u32>,
+    pub slice_widths: Table<u32>,
+    pub slice_heights: Table<u32>,
+    pub split_present: Table<u8>,
+    pub split_counts: Table<u32>,
+    pub delta_present: Table<u8>,
+    pub deltas: Table<i32>,
+    pub split_heights: Table<u32>,
+    pub triples: [[i32; 3]; 6],
+}
+
+impl Lent {
+    pub fn new(lengths: &Lengths) -> Self {
+        let t = &lengths.tables;
+        Lent {
+            work: Table::new(lengths.work, 0xA5),
+            subpic_ids: Table::new(t[0], 0xA0A0_A0A0),
+            tile_column_widths: Table::new(t[1], 0xA1A1_A1A1),
+            tile_row_heights: Table::new(t[2], 0xA2A2_A2A2),
+            slice_widths: Table::new(t[3], 0xA3A3_A3A3),
+            slice_heights: Table::new(t[4], 0xA4A4_A4A4),
+            split_present: Table::new(t[5], 0xA5),
+            split_counts: Table::new(t[6], 0xA6A6_A6A6),
+            delta_present: Table::new(t[7], 0xA7),
+            deltas: Table::new(t[8], -0x1234_5678),
+            split_heights: Table::new(t[9], 0xA9A9_A9A9),
+            triples: [[-1, -2, -3]; 6],
+        }
+    }
+
+    pub fn parse_pps(&mut self, nal: &[u8]) -> PpsRead {
+        let tables = Tables {
+            subpic_ids: self.subpic_ids.lent(),
+            tile_column_widths: self.tile_column_widths.lent(),
+            tile_row_heights: self.tile_row_heights.lent(),
+            slice_widths: self.slice_widths.lent(),
+            slice_heights: self.slice_heights.lent(),
+            split_present: self.split_present.lent(),
+            split_counts: self.split_counts.lent(),
+            delta_present: self.delta_present.lent(),
+            deltas: self.deltas.lent(),
+            split_heights: self.split_heights.lent(),
+            triples: &mut self.triples,
+        };
+        ours::parse_pps(nal, self.work.lent(), tables)
+    }
+
+    pub fn clear_tables(&mut self) {
+        self.subpic_ids.clear();
+        self.tile_column_widths.clear();
+        self.tile_row_heights.clear();
+        self.slice_widths.clear();
+        self.slice_heights.clear();
+        self.split_present.clear();
+        self.split_counts.clear();
+        self.delta_present.clear();
+        self.deltas.clear();
+        self.split_heights.clear();
+        self.triples = [[0; 3]; 6];
+    }
+}
