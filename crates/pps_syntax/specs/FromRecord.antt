@@ -10,7 +10,6 @@ use Rattle.pps_record.specs.declared.VvcPpsSubpicIdMapping.{VvcPpsSubpicIdMappi
 use Rattle.pps_record.specs.declared.VvcPpsPartition.{VvcPpsPartition}
 use Rattle.pps_record.specs.declared.VvcPpsChromaToolOffsets.{VvcPpsChromaToolOffsets}
 use Rattle.codes.specs.Bytes.{bitList}
-use Rattle.tables.specs.Tables.{blank}
 use Rattle.pps_syntax.specs.Chroma.{Triple, ChromaToolOffsets}
 use Rattle.pps_syntax.specs.PartitionSyntax.{PartitionBlock}
 use Rattle.pps_syntax.specs.Pps.{Front, Back, Pps}
@@ -40,9 +39,9 @@ subpicIdsFrom m ids =
 abbrev pub tripleOf : List ℤ → Triple
 tripleOf row = record { cb = getD row 0 (pos 0); cr = getD row 1 (pos 0); joint = getD row 2 (pos 0) }
 
--- n triples: those of the six rows, and zeros behind them, so that a length over 6 is seen as such
+-- n triples: those of the six rows, and one of zeros behind them, so that a length over 6 is seen as such
 unfoldable pub triplesFrom : ℕ → List (List ℤ) → List Triple
-triplesFrom n rows = map tripleOf (take n (rows ++ blank n []))
+triplesFrom n rows = map tripleOf (take n (rows ++ ([] ∷ [])))
 
 abbrev pub chromaFrom : VvcPpsChromaToolOffsets → List (List ℤ) → ChromaToolOffsets
 chromaFrom c rows =
@@ -76,8 +75,8 @@ unfoldable pub partitionFrom : VvcPpsPartition → Lent → List PartitionBlock
 partitionFrom p t = cond (isSet (p .present)) (blockFrom p t ∷ []) []
 
 -- ---- the set
-abbrev pub frontFrom : VvcPps → Lent → Front
-frontFrom r t =
+abbrev pub frontFrom : VvcPps → List ℕ → Front
+frontFrom r ids =
     record {
       head =
           record {
@@ -90,11 +89,11 @@ frontFrom r t =
       confWin = r .«pps_conf_win_offsets»;
       scalingWin = r .«pps_scaling_win_offsets»;
       kind = record { «pps_output_flag_present_flag» = r .«pps_output_flag_present_flag»; «pps_no_pic_partition_flag» = r .«pps_no_pic_partition_flag» };
-      subpicIds = subpicIdsFrom (r .«subpic_id_mapping») (t .subpicIds);
+      subpicIds = subpicIdsFrom (r .«subpic_id_mapping») ids;
     }
 
-abbrev pub backFrom : VvcPps → Lent → Back
-backFrom r t =
+abbrev pub backFrom : VvcPps → List (List ℤ) → Back
+backFrom r triples =
     record {
       references =
           record {
@@ -109,7 +108,7 @@ backFrom r t =
             «pps_init_qp_minus26» = r .«pps_init_qp_minus26»;
             «pps_cu_qp_delta_enabled_flag» = r .«pps_cu_qp_delta_enabled_flag»;
           };
-      chroma = chromaFrom (r .«chroma_tool_offsets») (t .triples);
+      chroma = chromaFrom (r .«chroma_tool_offsets») triples;
       deblocking = r .deblocking;
       pictureHeader =
           record {
@@ -125,7 +124,7 @@ backFrom r t =
     }
 
 unfoldable pub setFrom : VvcPps → Lent → Pps
-setFrom r t = record { front = frontFrom r t; partitionPresent = r .partition .present; partition = partitionFrom (r .partition) t; back = backFrom r t }
+setFrom r t = record { front = frontFrom r (t .subpicIds); partitionPresent = r .partition .present; partition = partitionFrom (r .partition) t; back = backFrom r (t .triples) }
 
 -- the extension bits, in the lent bytes
 unfoldable pub extensionFrom : VvcPps → List ℕ → List ℕ

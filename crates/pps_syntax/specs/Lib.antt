@@ -29,3 +29,4 @@ pub mod ListsFit
 pub mod Written
 pub mod WrittenBack
 pub mod FromRecord
+pub mod WriteAnswers

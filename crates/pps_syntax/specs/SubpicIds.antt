@@ -1,5 +1,5 @@
 -- The subpicture id mapping (H.266 7.3.2.5, 7.4.3.5).
-use Prim.Native.Nat.{ℕ, suc}
+use Prim.Native.Nat.{ℕ, suc, min}
 use mathlib.Core.Path.{_≡_, refl}
 use mathlib.Core.List.{List}
 use mathlib.Core.Bool.{Bool, cond, _&&_}
@@ -17,7 +17,7 @@ pub record SubpicIds : Type 0 where
   pub «pps_subpic_id» : List ℕ
 
 -- The count is coded in a partitioned picture, else 0 is inferred and writing any other is refused with 26. Writing refuses another number of ids, or an id too
--- large for its length, with 27
+-- large for its length, with 27. A length minus 1 over 15 is refused with 8; an id behind that refusal is taken as 16 bits long
 module _ (partitioned : Bool) where
   unfoldable pub subpicIds : Syntax SubpicIds
   subpicIds = do
@@ -25,7 +25,7 @@ module _ (partitioned : Bool) where
     let on = isSet present
     num ← orElse (on && partitioned) (limited ue (λ v. leb v 999) 8 (lit< tt)) (absent sameℕ 0 (cond on 26 0)) for (λ r. r .«pps_num_subpics_minus1»)
     len ← orElse on (limited ue (λ v. leb v 15) 8 (lit< tt)) (absent sameℕ 0 0) for (λ r. r .«pps_subpic_id_len_minus1»)
-    ids ← orElse on (many (suc num) (u (suc len) 27) 27) (none 0) for (λ r. r .«pps_subpic_id»)
+    ids ← orElse on (many (suc num) (u (suc (min len 15)) 27) 27) (none 0) for (λ r. r .«pps_subpic_id»)
     done (record { present = present; «pps_num_subpics_minus1» = num; «pps_subpic_id_len_minus1» = len; «pps_subpic_id» = ids })
 
   pub subpicIds-faithful : Faithful subpicIds (λ _. Unit {0})
