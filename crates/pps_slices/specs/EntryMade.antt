@@ -16,9 +16,9 @@ use Rattle.partition.specs.Entry.{tileX, tileY, widthCoded, heightCoded, inheri
 use Rattle.partition.specs.Sizes.{sum, explicitSizes, length-sizes}
 use Rattle.syntax.specs.Element.{Parsed}
 use Rattle.syntax.specs.Lists.{not-true}
-use Rattle.tile_grid.specs.declared.SlicesInTile.{SlicesInTile}
-use Rattle.tile_grid.specs.Answers.{slicesInTile}
-use Rattle.tile_grid.specs.Laws.{slices-number, slices-count}
+use Rattle.tile_sizes.specs.declared.SlicesInTile.{SlicesInTile}
+use Rattle.tile_sizes.specs.Answers.{slicesInTile}
+use Rattle.tile_sizes.specs.Laws.{slices-number, slices-count}
 use Rattle.pps_fields.specs.FieldReads.{tested}
 use Rattle.pps_fields.specs.Sizes.{sizesRead}
 use Rattle.pps_slices.specs.SizeReads.{demanded-held, sizes-most, sizes-stuck}

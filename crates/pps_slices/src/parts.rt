@@ -22,8 +22,8 @@ use slice_loop::CtbCount;
 use slice_loop::SliceIdx;
 use slice_loop::SliceLoopCtx;
 use slice_loop::TileIdx;
-use tile_grid::SlicesInTile;
-use tile_grid::num_slices_in_tile;
+use tile_sizes::SlicesInTile;
+use tile_sizes::num_slices_in_tile;
 
 // A presence flag.
 pub fn flag_of(on: bool) -> u8

@@ -9,8 +9,8 @@ use native.Mathlib.Omega.{arith}
 use lib.Dec.{ltb, leb, eqb}
 use lib.IntN.{ℤ, pos, negsuc, natAbs}
 use lib.ListN.{length, getD, List·getD-eq-default}
-use borrow.Author.Tests.{ltb-true, ltb-false, lt-ltb, le-ltb}
-use Rattle.partition.specs.Entry.{tileX, tileY, tileRowHeight, inLastColumn, inLastRow, widthCoded, heightCoded, inheritedHeight, defaultAdvance, tileAfterDelta, deltaLeaves, deltaRefused}
+use borrow.Author.Tests.{ltb-true, ltb-false, leb-true, leb-false, lt-ltb, le-ltb}
+use Rattle.partition.specs.Entry.{tileX, tileY, tileRowHeight, inLastColumn, inLastRow, widthCoded, heightCoded, inheritedHeight, defaultAdvance, tileAfterDelta, deltaLeaves, deltaRefused, deltaUncodable}
 use Rattle.slice_loop.specs.Answers.{tileIdx, noTile, nextByDelta, isNegative}
 
 -- a product of two numbers of 32 bits fits 64
@@ -103,3 +103,13 @@ module _ (tiles t n : ℕ) (s : Bool) (d : ℤ) (to : ℕ) (hs : s ≡ isNegativ
   pub delta-moves : bad ≡ false → record { refused = 0; «tile_idx» = tileIdx to } ≡ nextByDelta tiles t d
   unfolding nextByDelta
   delta-moves q = rw (← bad-is, q, to-is)
+
+-- −2147483648 by sign and size
+pub uncodable : (d : ℤ) (negative : Bool) (size : ℕ) → negative ≡ isNegative d → size ≡ natAbs d → (negative && ltb 2147483647 size) ≡ deltaUncodable d
+unfolding isNegative deltaUncodable
+uncodable (pos k) n s p q = rw p
+uncodable (negsuc k) n s p q = rw (p, q) (go (leb 2147483647 k) refl)
+  where
+    go : (b : Bool) → leb 2147483647 k ≡ b → ltb 2147483647 (suc k) ≡ b
+    go true e = lt-ltb 2147483647 (suc k) (omega (arith, leb-true 2147483647 k e))
+    go false e = le-ltb 2147483647 (suc k) (omega (arith, leb-false 2147483647 k e))

@@ -2,7 +2,7 @@
 ghost use mathlib.Core.Path.{_≡_};
 ghost use Prim.Native.Nat.{_+_, _-_, _*_};
 ghost use lib.Dec.{ltb};
-ghost use Rattle.partition.specs.Entry.{tileX, tileY, inLastRow, widthCoded, heightCoded, inheritedHeight, splitCoded, tileRowHeight, defaultAdvance};
+ghost use Rattle.partition.specs.Entry.{tileX, tileY, inLastRow, widthCoded, heightCoded, inheritedHeight, splitCoded, tileRowHeight, defaultAdvance, deltaUncodable};
 ghost use Rattle.slice_loop.specs.Answers.{tileIdx, nextByDelta};
 
 mod steps;
@@ -35,9 +35,9 @@ pub struct NextTile {
 }
 
 // The column and the row of a tile.
-struct TilePlace {
-    x: u32,
-    y: u32,
+pub struct TilePlace {
+    pub x: u32,
+    pub y: u32,
 }
 
 impl SliceLoopCtx {
@@ -48,7 +48,7 @@ impl SliceLoopCtx {
         self.num_tile_rows as u64 * self.num_tile_columns as u64
     }
 
-    fn place(self, tile_idx: TileIdx) -> TilePlace
+    pub fn place(self, tile_idx: TileIdx) -> TilePlace
         ensures { λ r. ⌜ (r .x ≡ tileX (self .«num_tile_columns») («tile_idx» .0)) × (r .y ≡ tileY (self .«num_tile_columns») («tile_idx» .0)) ⌝ }
     {
         let columns = self.num_tile_columns;
@@ -169,6 +169,14 @@ impl SliceLoopCtx {
             return TileIdx(4294967295);
         }
         held(next + down)
+    }
+
+    // A delta that has no se(v) code (25).
+    pub fn delta_uncodable(delta: i32) -> bool
+        ensures { λ r. ⌜ r ≡ deltaUncodable delta ⌝ }
+    {
+        let d = signed_parts(delta);
+        d.negative & (d.size > 2147483647)
     }
 
     // The tile after pps_tile_idx_delta_val, or 18 (7.4.3.5).

@@ -1,97 +1,16 @@
 -- The sizes of an axis, written one by one to the front of a table.
 use mathlib.Core.Path.{_≡_, refl, ap, ap₂, sym, _∙_}
 use mathlib.Core.List.{List, [], _∷_, _++_, append-assoc, append-nil}
-use mathlib.Core.Bool.{Bool, true, false}
-use Prim.Native.Nat.{ℕ, zero, suc, _+_, _-_, _/_, _%_, _≤_, _<_, min}
-use native.Mathlib.Nat.{div-eq-sub-div, mod-eq-sub-mod, div-eq-of-lt, mod-eq-of-lt, zero-div, zero-mod}
+use Prim.Native.Nat.{ℕ, zero, suc, _+_, _-_, _≤_, _<_, min}
 use native.Mathlib.Numerals.{add-one}
 use native.Mathlib.Omega.{arith}
-use lib.Dec.{ltb}
-use borrow.Author.Tests.{ltb-true, ltb-false}
-use lib.ListN.{length, getD, take, drop, set, replicate, length-append, length-set, length-take, take-append-drop, drop-of-length-le}
-use lib.Seq.{drop-cons, drop-drop, take-suc-set, drop-set-lt}
+use lib.ListN.{length, getD, take, drop, set, replicate, length-append, length-set, length-take, take-append-drop}
+use lib.Seq.{drop-drop, take-suc-set, drop-set-lt}
 use Rattle.partition.specs.Grid.{maxTileColumns, maxTiles}
-use Rattle.partition.specs.Sizes.{sum, explicitSizes, uniformSize, tailSize, uniformSizes, axisSizes, Fit}
-use Rattle.tile_grid.specs.Answers.{zeros, tableOf, nextSize, gridOfSizes}
-
--- ---- one size after the other
-
--- The sizes that are left: the explicit ones from here on, and what fills the rest.
-unfoldable pub sizesLeft : List ℕ → ℕ → ℕ → List ℕ
-sizesLeft es u remaining = explicitSizes es ++ uniformSizes u (remaining - sum (explicitSizes es))
-
-none-left : (u : ℕ) → uniformSizes u 0 ≡ []
-unfolding uniformSizes tailSize
-none-left u = rw (zero-div u, zero-mod u)
-
-uniform-step : (u n : ℕ) → 1 ≤ u → 1 ≤ n → uniformSizes u n ≡ min u n ∷ uniformSizes u (n - min u n)
-unfolding uniformSizes tailSize
-uniform-step u n hu hn = split (ltb n u) refl
-  where
-    one : n < u → (r : ℕ) → r ≡ n → replicate (r / u) u ++ tailSize (r % u) ≡ r ∷ []
-    one h zero e = absurd (omega arith)
-    one h (suc r) e = let l : suc r < u = omega arith in rw (div-eq-of-lt l, mod-eq-of-lt l)
-
-    split : (b : Bool) → ltb n u ≡ b → uniformSizes u n ≡ min u n ∷ uniformSizes u (n - min u n)
-    split true q =
-        let h : n < u = ltb-true n u q in
-        let m : min u n ≡ n = omega arith in
-        let z : n - n ≡ 0 = omega arith in
-        rw (m, z, zero-div u, zero-mod u) (one h n refl)
-    split false q =
-        let h : u ≤ n = ltb-false n u q in
-        let m : min u n ≡ u = omega arith in
-        let d : n / u ≡ suc ((n - u) / u) = div-eq-sub-div hu h ∙ add-one ((n - u) / u) in
-        rw (m, d, mod-eq-sub-mod h)
-
-next-fits : (es : List ℕ) (u n : ℕ) → 1 ≤ u → 1 ≤ n → Fit es n → (1 ≤ nextSize es u n) × (nextSize es u n ≤ n) × Fit (drop 1 es) (n - nextSize es u n)
-unfolding nextSize sum explicitSizes
-next-fits [] u n hu hn f = (omega arith, omega arith, omega arith)
-next-fits (e ∷ es) u n hu hn f = (omega arith, omega arith, omega arith)
-
-next-left : (es : List ℕ) (u n : ℕ) → 1 ≤ u → 1 ≤ n → Fit es n → sizesLeft es u n ≡ nextSize es u n ∷ sizesLeft (drop 1 es) u (n - nextSize es u n)
-unfolding sizesLeft nextSize sum explicitSizes
-next-left [] u n hu hn f =
-    let z : n - 0 ≡ n = omega arith in
-    let y : n - min u n - 0 ≡ n - min u n = omega arith in
-    rw (z, y) (uniform-step u n hu hn)
-next-left (e ∷ es) u n hu hn f = let z : n - (suc e + sum (explicitSizes es)) ≡ n - suc e - sum (explicitSizes es) = omega arith in rw z
-
-end-left : (es : List ℕ) (u n : ℕ) → n ≡ 0 → Fit es n → sizesLeft es u n ≡ []
-unfolding sizesLeft sum explicitSizes
-end-left [] u n h f = let z : n - 0 ≡ 0 = omega arith in rw z (none-left u)
-end-left (e ∷ es) u n h f = absurd (omega arith)
-
--- ---- the code of `next_size`
-
-pub explicit-next : (es : List ℕ) (j u n : ℕ) → j < length es → getD es j 0 + 1 ≡ nextSize (drop j es) u n
-unfolding nextSize
-explicit-next es j u n h = rw (drop-cons es j 0 h, add-one (getD es j 0))
-
-pub other-next : (es : List ℕ) (j u n : ℕ) → length es ≤ j → min u n ≡ nextSize (drop j es) u n
-unfolding nextSize
-other-next es j u n h = rw (drop-of-length-le es h)
-
-pub explicit-fits : (es : List ℕ) (j n : ℕ) → j < length es → Fit (drop j es) n → getD es j 0 + 1 ≤ n
-unfolding sum explicitSizes
-explicit-fits es j n h f = let k : Fit (getD es j 0 ∷ drop (suc j) es) n = rw (drop-cons es j 0 h) at f in omega arith
-
--- ---- the uniform size, read off the end
-
-last-is : (es : List ℕ) → 1 ≤ length es → getD es (length es - 1) 0 + 1 ≡ uniformSize es
-unfolding uniformSize
-last-is [] h = absurd (omega arith)
-last-is (e ∷ []) h = omega arith
-last-is (e ∷ f ∷ es) h = let z : suc (suc (length es)) - 1 ≡ suc (suc (length es) - 1) = omega arith in rw z (last-is (f ∷ es) (omega arith))
-
-uniform-fits : (es : List ℕ) (total : ℕ) → 1 ≤ length es → Fit es total → uniformSize es ≤ total
-unfolding uniformSize sum explicitSizes
-uniform-fits [] total h f = absurd (omega arith)
-uniform-fits (e ∷ []) total h f = omega arith
-uniform-fits (e ∷ k ∷ es) total h f = uniform-fits (k ∷ es) total (omega arith) (omega arith)
-
-pub last-fits : (es : List ℕ) (total : ℕ) → 1 ≤ length es → Fit es total → getD es (length es - 1) 0 + 1 ≤ total
-last-fits es total h f = omega (arith, last-is es h, uniform-fits es total h f)
+use Rattle.partition.specs.Sizes.{axisSizes, Fit}
+use Rattle.tile_sizes.specs.Answers.{nextSize}
+use Rattle.tile_sizes.specs.Left.{sizesLeft, next-fits, next-left, end-left, last-is}
+use Rattle.tile_grid.specs.Answers.{zeros, tableOf, gridOfSizes}
 
 -- ---- the table
 
@@ -111,9 +30,12 @@ unfolding axisSizes sizesLeft
 filling-begins es old total h f l =
     record { done = rw (last-is es h); rest = refl; size = refl; fit = f; within = omega arith; some = omega arith; room = l }
 
-module _ (es whole : List ℕ) (u : ℕ) (old out : List ℕ) (remaining j s : ℕ) (more : 1 ≤ remaining) (e : s ≡ nextSize (drop j es) u remaining) (f : Filling es whole u old out remaining j) where
+module _ (es whole : List ℕ) (u : ℕ) (old out : List ℕ) (remaining j s : ℕ) (more : 1 ≤ remaining) (made : s ≡ min (nextSize (drop j es) u remaining) remaining) (f : Filling es whole u old out remaining j) where
   next : (1 ≤ nextSize (drop j es) u remaining) × (nextSize (drop j es) u remaining ≤ remaining) × Fit (drop 1 (drop j es)) (remaining - nextSize (drop j es) u remaining)
   next = next-fits (drop j es) u remaining (f .some) more (f .fit)
+
+  e : s ≡ nextSize (drop j es) u remaining
+  e = omega (arith, next .1)
 
   pub next-some : 1 ≤ s
   next-some = omega (arith, next .0)

@@ -4,12 +4,10 @@ use mathlib.Core.List.{List, [], _∷_, _++_}
 use mathlib.Core.Bool.{Bool, true, false, cond}
 use Prim.Native.Nat.{ℕ, _+_, _/_, _≤_, _<_}
 use native.Mathlib.Nat.{div-le-self, le-trans}
-use native.Mathlib.Numerals.{add-one}
 use native.Mathlib.Omega.{arith}
 use lib.Dec.{ltb, leb, lit<}
-use lib.ListN.{length, getD, drop, drop-of-length-le}
-use lib.Seq.{drop-cons}
-use borrow.Author.Tests.{lt-ltb, le-ltb, ltb-false, le-leb, lt-leb, leb-true, leb-false, eq-eqb, ne-eqb, eqb-false}
+use lib.ListN.{length}
+use borrow.Author.Tests.{lt-ltb, le-ltb, ltb-false, leb-true, leb-false, eq-eqb, ne-eqb, eqb-false}
 use Rattle.partition.specs.Sizes.{sum, explicitSizes, axisSizes, some-size}
 use Rattle.partition.specs.Grid.{maxTileColumns, maxTiles}
 use Rattle.partition.specs.Checks.{Check, refuse, fine, refusedWith, firstBad, numberOf, AllPass, passes, first-left, first-right, fails, goes-on, ends, Numbered, zero-fine, number-refused}
@@ -17,21 +15,6 @@ use Rattle.partition.specs.Entry.{someAtLeast}
 use Rattle.partition.specs.Partition.{inCtbs, tileGrid, explicitChecks, axisChecks, gridChecks}
 use Rattle.tile_grid.specs.declared.GridAnswer.{GridAnswer}
 use Rattle.tile_grid.specs.Answers.{gridOfSizes, FitsTable, refusedGrid, gridFor, gridAnswer}
-
--- ---- a search from i on
-
-module _ (limit : ℕ) (ss : List ℕ) (i : ℕ) where
-  pub found-at : i < length ss → limit ≤ getD ss i 0 → true ≡ someAtLeast limit (drop i ss)
-  unfolding someAtLeast
-  found-at h l = rw (drop-cons ss i 0 h, le-leb limit (getD ss i 0) l)
-
-  pub not-at : i < length ss → getD ss i 0 < limit → someAtLeast limit (drop i ss) ≡ someAtLeast limit (drop (i + 1) ss)
-  unfolding someAtLeast
-  not-at h l = rw (drop-cons ss i 0 h, lt-leb limit (getD ss i 0) l, add-one i)
-
-  pub none-after : length ss ≤ i → someAtLeast limit (drop i ss) ≡ false
-  unfolding someAtLeast
-  none-after h = rw (drop-of-length-le ss h)
 
 -- ---- the explicit sizes
 

@@ -1,3 +1,2 @@
-pub mod Count
 pub mod Fill
 pub mod GridChecks

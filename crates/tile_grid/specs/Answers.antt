@@ -1,25 +1,14 @@
 -- What the functions of this crate answer, by the definitions of `partition`.
-use mathlib.Core.List.{List, [], _∷_, _++_}
-use mathlib.Core.Bool.{cond}
+use mathlib.Core.List.{List, _++_}
 use mathlib.Core.Path.{_≡_}
-use Prim.Native.Nat.{ℕ, suc, _-_, _≤_, min}
-use lib.Dec.{ltb}
+use Prim.Native.Nat.{ℕ, _-_, _≤_}
 use lib.ListN.{length, replicate}
-use Rattle.partition.specs.Sizes.{sum, explicitSizes, axisSizes, Fit}
+use Rattle.partition.specs.Sizes.{axisSizes, Fit}
 use Rattle.partition.specs.Grid.{Grid, maxTileColumns, maxTiles}
 use Rattle.partition.specs.Checks.{Outcome, fine, refusedWith, firstBad}
-use Rattle.partition.specs.Entry.{numSlicesInTile}
 use Rattle.partition.specs.Partition.{tileGrid, gridChecks}
 use Rattle.tile_grid.specs.declared.TileGrid.{TileGrid}
 use Rattle.tile_grid.specs.declared.GridAnswer.{GridAnswer}
-use Rattle.tile_grid.specs.declared.SlicesInTile.{SlicesInTile}
-
--- ---- the grid
-
--- The next size on an axis, of which `remaining` is left: an explicit one, or the uniform one, or the tail.
-unfoldable pub nextSize : List ℕ → ℕ → ℕ → ℕ
-nextSize [] uniform remaining = min uniform remaining
-nextSize (e ∷ es) uniform remaining = suc e
 
 unfoldable pub zeros : ℕ → List ℕ
 zeros n = replicate n 0
@@ -57,12 +46,3 @@ gridFor (refusedWith n) g = refusedGrid n
 
 unfoldable pub gridAnswer : ℕ → ℕ → ℕ → List ℕ → List ℕ → GridAnswer
 gridAnswer width height ctu ws hs = gridFor (firstBad (gridChecks width height ctu ws hs)) (tileGrid width height ctu ws hs)
-
--- ---- the slices of a tile
-
--- 16, or the number of slices.
-unfoldable pub slicesInTile : List ℕ → ℕ → SlicesInTile
-slicesInTile heightsMinus1 rowHeight =
-    cond (ltb rowHeight (sum (explicitSizes heightsMinus1)))
-    (record { refused = 16; «num_slices» = 0 })
-    (record { refused = 0; «num_slices» = numSlicesInTile heightsMinus1 rowHeight })

@@ -1,16 +1,13 @@
 -- Laws on the answers, for callers.
 use mathlib.Core.Path.{_≡_, refl, sym, _∙_}
 use mathlib.Core.List.{List, [], _∷_, _++_}
-use mathlib.Core.Bool.{Bool, true, false, cond}
 use Prim.Native.Nat.{ℕ, zero, suc, _-_}
-use lib.Dec.{ltb, lit<}
+use lib.Dec.{lit<}
 use lib.ListN.{length, getD}
-use Rattle.partition.specs.Sizes.{sum, explicitSizes}
 use Rattle.partition.specs.Checks.{Outcome, fine, refusedWith, firstBad, numberOf, Numbered, zero-fine}
-use Rattle.partition.specs.Entry.{tileRowHeight, numSlicesInTile}
+use Rattle.partition.specs.Entry.{tileRowHeight}
 use Rattle.partition.specs.Partition.{tileGrid, explicitChecks, axisChecks, gridChecks}
-use Rattle.tile_grid.specs.declared.SlicesInTile.{SlicesInTile}
-use Rattle.tile_grid.specs.Answers.{zeros, tableOf, gridOfSizes, refusedGrid, gridFor, gridAnswer, slicesInTile}
+use Rattle.tile_grid.specs.Answers.{zeros, tableOf, gridOfSizes, refusedGrid, gridFor, gridAnswer}
 
 -- ---- tables
 
@@ -57,18 +54,3 @@ module _ (width height ctu : ℕ) (ws hs : List ℕ) where
   pub grid-sizes : gridAnswer width height ctu ws hs .refused ≡ 0 → gridAnswer width height ctu ws hs ≡ gridOfSizes (tileGrid width height ctu ws hs .columnWidths) (tileGrid width height ctu ws hs .rowHeights)
   unfolding gridAnswer gridFor
   grid-sizes e = rw (grid-fine e)
-
--- ---- the slices of a tile
-
-module _ (hs : List ℕ) (row : ℕ) where
-  pub slices-number : slicesInTile hs row .refused ≡ cond (ltb row (sum (explicitSizes hs))) 16 0
-  unfolding slicesInTile
-  slices-number = go (ltb row (sum (explicitSizes hs)))
-    where
-      go : (b : Bool) → (cond {A = SlicesInTile} b (record { refused = 16; «num_slices» = 0 }) (record { refused = 0; «num_slices» = numSlicesInTile hs row })) .refused ≡ cond b 16 0
-      go true = refl
-      go false = refl
-
-  pub slices-count : ltb row (sum (explicitSizes hs)) ≡ false → slicesInTile hs row .«num_slices» ≡ numSlicesInTile hs row
-  unfolding slicesInTile
-  slices-count e = rw e

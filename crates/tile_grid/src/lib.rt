@@ -1,19 +1,31 @@
 // The tile grid of a partitioned picture (H.266 6.5.1, 7.4.3.5).
 ghost use mathlib.Core.Path.{_≡_};
+ghost use Prim.Native.Nat.{_≤_, min};
 ghost use lib.Dec.{ltb};
+ghost use lib.ListN.{take};
 ghost use Rattle.partition.specs.Sizes.{axisSizes};
 ghost use Rattle.partition.specs.Grid.{maxTileColumns, maxTiles, maxSlicesMinus1};
-ghost use Rattle.tile_grid.specs.Answers.{slicesInTile, FitsTable, gridOfSizes, refusedGrid, gridAnswer};
+ghost use Rattle.pps_syntax.specs.BlockRefusal.{declinedWith};
+ghost use Rattle.pps_syntax.specs.SliceTables.{sliceTables};
+ghost use Rattle.question_tests.specs.Questions.{layoutAsked};
+ghost use Rattle.question_tests.specs.Steps.{gridFrom, slicedWithin};
+ghost use Rattle.question_tests.specs.Tables.{lent};
+ghost use Rattle.tile_grid.specs.GridQuestion.{gridAnswerOf};
+ghost use Rattle.tile_grid.specs.Answers.{FitsTable, gridOfSizes, refusedGrid, gridAnswer};
 
 mod sizes;
 
+use pps_record::VvcPps;
+use pps_record::VvcPpsPartition;
+use question_tests::record::record_refusal;
+use question_tests::slicing::slicing_refusal;
 use sizes::axis_answer;
-use sizes::count_sizes;
 use sizes::explicit_refusal;
 use sizes::in_ctbs;
 use sizes::sizes_into;
 use slice_loop::CtbCount;
 use slice_loop::SliceIdx;
+use slice_loop::TileIdx;
 
 // The tile grid, in CTBs; places not in use are 0.
 pub struct TileGrid {
@@ -27,6 +39,25 @@ pub struct TileGrid {
 pub struct GridAnswer {
     pub refused: u8,
     pub grid: TileGrid,
+}
+
+// A refusal, or 0 and the plan: each slice's left, top, width and height in CTBs, by slice index; places not in use are 0.
+pub struct PlanAnswer {
+    pub refused: u8,
+    pub num_slices: u32,
+    pub left: [u32; 1000],
+    pub top: [u32; 1000],
+    pub width: [u32; 1000],
+    pub height: [u32; 1000],
+}
+
+// A refusal, or what the slices cover: no plan, every block once, a tile in no slice, or a tile whose blocks lie in several.
+pub enum CoverAnswer {
+    Refused(u8),
+    NoPlan,
+    Whole,
+    Gap(TileIdx),
+    Double(TileIdx),
 }
 
 fn refused_grid(number: u8) -> GridAnswer
@@ -67,6 +98,13 @@ fn accepted_grid(
         row_heights,
     };
     GridAnswer { refused: 0, grid }
+}
+
+fn at_most(n: u32, len: usize) -> usize
+    ensures { λ r. ⌜ r ≡ min n len ⌝ }
+{
+    let m = n as usize;
+    if m < len { m } else { len }
 }
 
 impl TileGrid {
@@ -120,34 +158,121 @@ impl TileGrid {
             rows.count,
         )
     }
-}
 
-// 16, or 0 and NumSlicesInTile.
-pub struct SlicesInTile {
-    pub refused: u8,
-    pub num_slices: u32,
-}
-
-// NumSlicesInTile of 6.5.1, equation 21, or 16 where the explicit slice heights (minus 1) pass the row.
-pub fn num_slices_in_tile(heights_minus1: &[u32], row_height: CtbCount) -> SlicesInTile
-    ensures { λ r. ⌜ r ≡ slicesInTile (now («heights_minus1» .entry)) («row_height» .0) ⌝ }
-{
-    if heights_minus1.len() == 0 {
-        return SlicesInTile {
-            refused: 0,
-            num_slices: 1,
-        };
+    // The grid of the first so many sizes of two tables.
+    fn of_tables(
+        width: u32,
+        height: u32,
+        p: VvcPpsPartition,
+        tile_column_widths: &[u32],
+        tile_row_heights: &[u32],
+    ) -> GridAnswer
+        ensures { λ r. ⌜ r ≡ gridAnswer width height (p .«pps_log2_ctu_size_minus5») (take (p .«num_tile_column_widths») (now («tile_column_widths» .entry))) (take (p .«num_tile_row_heights») (now («tile_row_heights» .entry))) ⌝ }
+    {
+        let a = at_most(p.num_tile_column_widths, tile_column_widths.len());
+        let b = at_most(p.num_tile_row_heights, tile_row_heights.len());
+        Self::new(
+            width,
+            height,
+            p.pps_log2_ctu_size_minus5,
+            &tile_column_widths[..a],
+            &tile_row_heights[..b],
+        )
     }
-    let c = count_sizes(heights_minus1, row_height);
-    if c.fits {
-        SlicesInTile {
-            refused: 0,
-            num_slices: c.count,
+
+    // The number with which the slices of a partition are refused in this grid, or 0.
+    fn slices_refused(
+        self,
+        p: VvcPpsPartition,
+        widths: &[u32],
+        heights: &[u32],
+        split_present: &[u8],
+        split_counts: &[u32],
+        delta_present: &[u8],
+        deltas: &[i32],
+        split_heights: &[u32],
+    ) -> u8
+        requires { ⌜ (self .«num_tile_columns» ≤ 30) × (self .«num_tile_rows» ≤ 990) ⌝ }
+        ensures { λ r. ⌜ r ≡ declinedWith (slicedWithin (gridFrom (take (self .«num_tile_columns») (self .«column_widths»)) (take (self .«num_tile_rows») (self .«row_heights»))) p (sliceTables (now (widths .entry)) (now (heights .entry)) (now («split_present» .entry)) (now («split_counts» .entry)) (now («delta_present» .entry)) (now (deltas .entry)) (now («split_heights» .entry)))) ⌝ }
+    {
+        let columns = self.num_tile_columns as usize;
+        let rows = self.num_tile_rows as usize;
+        let column_widths = self.column_widths;
+        let row_heights = self.row_heights;
+        slicing_refusal(
+            &column_widths[..columns],
+            &row_heights[..rows],
+            p,
+            widths,
+            heights,
+            split_present,
+            split_counts,
+            delta_present,
+            deltas,
+            split_heights,
+        )
+    }
+
+    // The grid question: the tile grid of a record's picture, with no columns and no rows where it is unpartitioned; or a refusal. The whole partition is tested, its slices too.
+    pub fn of_record(
+        pps: VvcPps,
+        subpic_ids: &[u32],
+        tile_column_widths: &[u32],
+        tile_row_heights: &[u32],
+        widths: &[u32],
+        heights: &[u32],
+        split_present: &[u8],
+        split_counts: &[u32],
+        delta_present: &[u8],
+        deltas: &[i32],
+        split_heights: &[u32],
+    ) -> GridAnswer
+        ensures { λ r. ⌜ r ≡ gridAnswerOf (layoutAsked pps (lent (now («subpic_ids» .entry)) (now («tile_column_widths» .entry)) (now («tile_row_heights» .entry)) (sliceTables (now (widths .entry)) (now (heights .entry)) (now («split_present» .entry)) (now («split_counts» .entry)) (now («delta_present» .entry)) (now (deltas .entry)) (now («split_heights» .entry))))) ⌝ }
+    {
+        let number = record_refusal(
+            pps,
+            subpic_ids,
+            tile_column_widths,
+            tile_row_heights,
+            widths,
+            heights,
+            split_present,
+            split_counts,
+            delta_present,
+            deltas,
+            split_heights,
+        );
+        let p = pps.partition;
+        if number != 0 {
+            return refused_grid(number);
         }
-    } else {
-        SlicesInTile {
-            refused: 16,
-            num_slices: 0,
+        if p.present == 0 {
+            return refused_grid(0);
         }
+        let answer = Self::of_tables(
+            pps.pps_pic_width_in_luma_samples,
+            pps.pps_pic_height_in_luma_samples,
+            p,
+            tile_column_widths,
+            tile_row_heights,
+        );
+        if answer.refused != 0 {
+            return answer;
+        }
+        let grid = answer.grid;
+        let slices = grid.slices_refused(
+            p,
+            widths,
+            heights,
+            split_present,
+            split_counts,
+            delta_present,
+            deltas,
+            split_heights,
+        );
+        if slices != 0 {
+            return refused_grid(slices);
+        }
+        answer
     }
 }

@@ -1,65 +1,20 @@
-// Sizes on an axis of the grid, counted and written, and their refusals (H.266 6.5.1, equations 14, 15 and 21; 7.4.3.5).
+// Sizes on an axis of the grid, written, and their refusals (H.266 6.5.1, equations 14 and 15; 7.4.3.5).
 ghost use mathlib.Core.Path.{_≡_};
 ghost use mathlib.Core.List.{_++_};
-ghost use mathlib.Core.Bool.{cond};
-ghost use Prim.Native.Nat.{_+_, _/_, _%_, _≤_, min};
+ghost use Prim.Native.Nat.{_≤_};
 ghost use lib.ListN.{length, drop};
-ghost use lib.Dec.{leb};
-ghost use Rattle.partition.specs.Sizes.{sum, explicitSizes, axisSizes, Fit};
+ghost use Rattle.partition.specs.Sizes.{axisSizes, Fit};
 ghost use Rattle.partition.specs.Checks.{firstBad, numberOf};
-ghost use Rattle.partition.specs.Entry.{someAtLeast};
 ghost use Rattle.partition.specs.Partition.{inCtbs, explicitChecks, axisChecks};
-ghost use Rattle.tile_grid.specs.Answers.{nextSize};
 use slice_loop::CtbCount;
-
-// How many sizes there are on an axis, 0 where the explicit ones pass it.
-pub struct SizeCount {
-    pub fits: bool,
-    pub count: u32,
-}
+use tile_sizes::count_sizes;
+use tile_sizes::next_size;
+use tile_sizes::some_at_least;
 
 // A refusal (12, 13), or 0 and the count of sizes on an axis.
 pub struct AxisAnswer {
     pub refused: u8,
     pub count: u32,
-}
-
-// In how many pieces of u a remaining length falls, the last one perhaps shorter.
-pub fn pieces(remaining: u32, u: u32) -> u32
-    requires { ⌜ 1 ≤ u ⌝ }
-    ensures { λ r. ⌜ (r ≡ remaining / u + min 1 (remaining % u)) × (r ≤ remaining) ⌝ }
-{
-    if remaining % u == 0 {
-        remaining / u
-    } else {
-        remaining / u + 1
-    }
-}
-
-// One pass over the explicit sizes of an axis (minus 1): how many sizes there are, without making them.
-pub fn count_sizes(exp_minus1: &[u32], total: CtbCount) -> SizeCount
-    ensures { λ r. ⌜ (r .fits ≡ leb (sum (explicitSizes (now («exp_minus1» .entry)))) (total .0)) × (r .count ≡ cond (r .fits) (length (axisSizes (now («exp_minus1» .entry)) (total .0))) 0) ⌝ }
-{
-    let mut remaining = total.0;
-    let mut uniform: u32 = 1;
-    let mut i = 0;
-    while i < exp_minus1.len() {
-        let e = exp_minus1[i];
-        if e >= remaining {
-            return SizeCount {
-                fits: false,
-                count: 0,
-            };
-        }
-        uniform = e + 1;
-        remaining -= uniform;
-        i += 1;
-    }
-    let rest = pieces(remaining, uniform);
-    SizeCount {
-        fits: true,
-        count: i as u32 + rest,
-    }
 }
 
 // A length in luma samples, in CTBs of 2^(5 + the CTU size field), rounded up.
@@ -74,20 +29,6 @@ pub fn in_ctbs(samples: u32, log2_ctu_size_minus5: u8) -> CtbCount
         return CtbCount(((samples as u64 + 63) / 64) as u32);
     }
     CtbCount(((samples as u64 + 127) / 128) as u32)
-}
-
-// Some size minus 1 is at least the axis.
-pub fn some_at_least(limit: CtbCount, sizes_minus1: &[u32]) -> bool
-    ensures { λ r. ⌜ r ≡ someAtLeast (limit .0) (now («sizes_minus1» .entry)) ⌝ }
-{
-    let mut i = 0;
-    while i < sizes_minus1.len() {
-        if sizes_minus1[i] >= limit.0 {
-            return true;
-        }
-        i += 1;
-    }
-    false
 }
 
 // 10 where there are no explicit columns or rows, 11 where one of them is too large, else 0.
@@ -134,21 +75,6 @@ pub fn axis_answer(exp_minus1: &[u32], total: CtbCount, limit: u32) -> AxisAnswe
     AxisAnswer {
         refused: 0,
         count: c.count,
-    }
-}
-
-// The size at j: an explicit one, or the uniform one, or the tail.
-pub fn next_size(exp_minus1: &[u32], uniform: u32, j: usize, remaining: u32) -> u32
-    requires { ⌜ Fit (drop j (now «exp_minus1»)) remaining ⌝ }
-    ensures { λ r. ⌜ r ≡ nextSize (drop j (now («exp_minus1» .entry))) uniform remaining ⌝ }
-{
-    if j < exp_minus1.len() {
-        return exp_minus1[j] + 1;
-    }
-    if remaining < uniform {
-        remaining
-    } else {
-        uniform
     }
 }
 

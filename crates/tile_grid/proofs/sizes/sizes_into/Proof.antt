@@ -3,7 +3,8 @@ use borrow.Author.Needs.{needs}
 use Prim.Native.Nat.{_≤_}
 use native.Mathlib.Omega.{arith}
 use Rattle.partition.specs.Sizes.{axisSizes}
-use Rattle.tile_grid.proofs.Fill.{last-fits, Filling, filling-begins, next-some, next-within, has-room, filling-goes-on, filling-ends}
+use Rattle.tile_sizes.specs.Left.{last-fits}
+use Rattle.tile_grid.proofs.Fill.{Filling, filling-begins, next-some, next-within, has-room, filling-goes-on, filling-ends}
 use Rattle.tile_grid.proofs.sizes.sizes_into.Statement.{statement}
 use Rattle.tile_grid.proofs.sizes.sizes_into.Tie as tie
 
@@ -29,7 +30,7 @@ loop-holds : tie.Need-loop-holds Inv-loop μ-loop
 loop-holds c = filling-begins _ _ _ (c .before .before .before .pre .0) (c .before .before .before .pre .1) (c .before .before .before .pre .2)
 
 next-size-requires : tie.Need-next-size-requires Inv-loop μ-loop
-next-size-requires c κs = c .before .loop .inv .fit
+next-size-requires c κs = tt
 
 mul-out : tie.Need-mul-out Inv-loop μ-loop
 mul-out c = let more : 1 ≤ c .before .before .loop .remaining = omega arith in let r = has-room _ _ _ _ _ _ _ _ more (c .next-size .ensures) (c .before .before .loop .inv) in omega arith

@@ -1,0 +1,5 @@
+pub mod Questions
+pub mod Steps
+pub mod Tables
+pub mod Walking
+pub mod Refusing

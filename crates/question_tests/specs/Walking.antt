@@ -1,0 +1,87 @@
+-- The slice loop over the tables: what is left of the walk at each turn.
+use Prim.Native.Nat.{ℕ, zero, suc, _+_, _-_, _≤_, _<_, min}
+use mathlib.Core.Path.{_≡_, refl, ap, _∙_}
+use mathlib.Core.List.{List, [], _∷_, map}
+use mathlib.Core.Bool.{Bool, true, false}
+use native.Mathlib.Omega.{arith}
+use lib.Dec.{ltb}
+use lib.ListN.{length, take, drop, length-drop, drop-of-length-le}
+use lib.Seq.{take-nil}
+use borrow.Author.Tests.{ltb-true, ltb-false}
+use Rattle.partition.specs.Entry.{Entry, Position, firstPosition, nextPosition}
+use Rattle.partition.specs.Grid.{Grid, columns}
+use Rattle.partition.specs.Walk.{rowHeightOf, onward}
+use Rattle.pps_syntax.specs.SliceSyntax.{entryOf}
+use Rattle.pps_syntax.specs.SliceTables.{SliceTables, splitCount, sliceAt, slicesFrom}
+use Rattle.question_tests.specs.declared.entries.EntryAt.{EntryAt}
+use Rattle.question_tests.specs.Steps.{position}
+use Rattle.question_tests.specs.Tables.{entryAt, entryWith}
+
+-- ---- the explicit slice heights of an entry
+
+-- from a place held within the table
+pub take-held : (c : ℕ) (l : List ℕ) → take (min (length l) c) l ≡ take c l
+take-held c [] = rw (take-nil c, take-nil (min 0 c))
+take-held zero (x ∷ l) = let z : min (suc (length l)) 0 ≡ 0 = omega arith in rw z
+take-held (suc c) (x ∷ l) = let z : min (suc (length l)) (suc c) ≡ suc (min (length l) c) = omega arith in rw z (ap (λ (r : List ℕ). x ∷ r) (take-held c l))
+
+pub heights-held : (l : List ℕ) (c j from to : ℕ) → from ≡ min (length l) j → to ≡ min (length l) (from + c) → take (to - from) (drop from l) ≡ take c (drop j l)
+heights-held l c j from to p q = split (ltb j (length l)) refl
+  where
+    split : (b : Bool) → ltb j (length l) ≡ b → take (to - from) (drop from l) ≡ take c (drop j l)
+    split true e =
+        let h : j < length l = ltb-true j (length l) e in
+        let a : from ≡ j = omega arith in
+        let b : to - from ≡ min (length (drop j l)) c = omega (arith, length-drop j l) in
+        rw (b, a) (take-held c (drop j l))
+    split false e =
+        let h : length l ≤ j = ltb-false j (length l) e in
+        let k : length l ≤ from = omega arith in
+        rw (drop-of-length-le l h, drop-of-length-le l k, take-nil {A = ℕ} c, take-nil {A = ℕ} (to - from))
+
+module _ (t : SliceTables) where
+  -- the entries from entry i on, their heights from place j on
+  abbrev pub entriesFrom : ℕ → ℕ → ℕ → List Entry
+  entriesFrom i j n = map entryOf (slicesFrom t i j n)
+
+  -- the first of them, its heights in a part of their table
+  pub first-entry : (i j n from to : ℕ) → i < n → from ≡ min (length (t .splitHeights)) j → to ≡ min (length (t .splitHeights)) (from + entryAt t i .«split_count»)
+      → entriesFrom i j (n - i) ≡ entryWith (entryAt t i) (take (to - from) (drop from (t .splitHeights))) ∷ entriesFrom (i + 1) (j + splitCount t i) (n - (i + 1))
+  unfolding slicesFrom sliceAt entryAt
+  first-entry i j n from to h p q =
+      let z : n - i ≡ suc (n - (i + 1)) = omega arith in
+      rw (z, heights-held (t .splitHeights) (splitCount t i) j from to p q)
+
+-- ---- where the loop stands
+
+-- The loop's numbers stand for a position of the walk and a place in the table of split heights; the tile counts while slices are to come.
+pub record StandsAt (N : ℕ) (t : SliceTables) (at : Position) (j slice tile preceding from : ℕ) : Type 0 where
+  pub sliceIs : slice ≡ at .slice
+  pub tileIs : slice ≤ N → tile ≡ at .tile
+  pub precedes : preceding ≡ at .precedingHeightMinus1
+  pub placeIs : from ≡ min (length (t .splitHeights)) j
+
+positions : {a b c a′ b′ c′ : ℕ} → a ≡ a′ → b ≡ b′ → c ≡ c′ → position a b c ≡ position a′ b′ c′
+positions p q r = rw (p, q, r)
+
+pub stands-first : (N : ℕ) (t : SliceTables) → StandsAt N t firstPosition 0 0 0 0 0
+stands-first N t = record { sliceIs = refl; tileIs = λ _. refl; precedes = refl; placeIs = omega arith }
+
+module _ {N : ℕ} {t : SliceTables} {at : Position} {j slice tile preceding from : ℕ} (S : StandsAt N t at j slice tile preceding from) where
+  pub stands-here : slice ≤ N → position slice tile preceding ≡ at
+  stands-here l = positions (S .sliceIs) (S .tileIs l) (S .precedes)
+
+  -- after an entry whose step was right
+  pub stands-after : (g : Grid) (d : Bool) (e : EntryAt) (hs : List ℕ) (c slice′ tile′ to : ℕ) → slice ≤ N
+      → slice′ ≡ nextPosition (columns g) d (rowHeightOf g tile) (position slice tile preceding) (entryWith e hs) .slice
+      → (slice′ ≤ N → tile′ ≡ nextPosition (columns g) d (rowHeightOf g tile) (position slice tile preceding) (entryWith e hs) .tile)
+      → to ≡ min (length (t .splitHeights)) (from + c)
+      → StandsAt N t (onward g d at (entryWith e hs)) (j + c) slice′ tile′ (e .height) to
+  unfolding nextPosition
+  stands-after g d e hs c slice′ tile′ to l p q r =
+      record {
+        sliceIs = p ∙ ap (λ (k : Position). onward g d k (entryWith e hs) .slice) (stands-here l);
+        tileIs = λ m. q m ∙ ap (λ (k : Position). onward g d k (entryWith e hs) .tile) (stands-here l);
+        precedes = refl;
+        placeIs = omega (arith, S .placeIs);
+      }

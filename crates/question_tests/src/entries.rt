@@ -1,0 +1,99 @@
+// The entries of the slice loop as they stand in their tables; a place outside a table reads as 0.
+ghost use mathlib.Core.Path.{_≡_};
+ghost use mathlib.Core.List.{[]};
+ghost use Prim.Native.Nat.{_+_, min};
+ghost use lib.IntN.{pos};
+ghost use lib.ListN.{getD};
+ghost use Rattle.pps_syntax.specs.SliceTables.{sliceTables, splitCount};
+ghost use Rattle.question_tests.specs.Tables.{splitTables, entryAt};
+
+// An entry, but for its explicit slice heights; so many of them are in their table.
+pub struct EntryAt {
+    pub width: u32,
+    pub height: u32,
+    pub split_present: bool,
+    pub split_count: u32,
+    pub delta_present: bool,
+    pub delta: i32,
+}
+
+fn at_u32(table: &[u32], i: u32) -> u32
+    ensures { λ r. ⌜ r ≡ getD (now (table .entry)) i 0 ⌝ }
+{
+    let k = i as usize;
+    if k < table.len() {
+        return table[k];
+    }
+    0
+}
+
+fn at_u8(table: &[u8], i: u32) -> u8
+    ensures { λ r. ⌜ r ≡ getD (now (table .entry)) i 0 ⌝ }
+{
+    let k = i as usize;
+    if k < table.len() {
+        return table[k];
+    }
+    0
+}
+
+fn at_i32(table: &[i32], i: u32) -> i32
+    ensures { λ r. ⌜ r ≡ getD (now (table .entry)) i (pos 0) ⌝ }
+{
+    let k = i as usize;
+    if k < table.len() {
+        return table[k];
+    }
+    0
+}
+
+// How many explicit slice heights entry i has: none where its split part is absent.
+pub fn split_count(split_present: &[u8], split_counts: &[u32], i: u32) -> u32
+    ensures { λ r. ⌜ r ≡ splitCount (splitTables (now («split_present» .entry)) (now («split_counts» .entry))) i ⌝ }
+{
+    if at_u8(split_present, i) == 0 {
+        return 0;
+    }
+    at_u32(split_counts, i)
+}
+
+pub fn entry_at(
+    widths: &[u32],
+    heights: &[u32],
+    split_present: &[u8],
+    split_counts: &[u32],
+    delta_present: &[u8],
+    deltas: &[i32],
+    i: u32,
+) -> EntryAt
+    ensures { λ r. ⌜ r ≡ entryAt (sliceTables (now (widths .entry)) (now (heights .entry)) (now («split_present» .entry)) (now («split_counts» .entry)) (now («delta_present» .entry)) (now (deltas .entry)) []) i ⌝ }
+{
+    let width = at_u32(widths, i);
+    let height = at_u32(heights, i);
+    let present = at_u8(split_present, i);
+    let count = split_count(split_present, split_counts, i);
+    let moves = at_u8(delta_present, i);
+    let delta = at_i32(deltas, i);
+    EntryAt {
+        width,
+        height,
+        split_present: present != 0,
+        split_count: count,
+        delta_present: moves != 0,
+        delta,
+    }
+}
+
+// The place behind so many more, in a table of this length.
+pub fn place_after(length: usize, from: usize, count: u32) -> usize
+    ensures { λ r. ⌜ r ≡ min length (from + count) ⌝ }
+{
+    let n = count as usize;
+    if from >= length {
+        return length;
+    }
+    if n >= length - from {
+        return length;
+    }
+    from + n
+}
