@@ -1,0 +1,20 @@
+use denote.Ref.{now}
+use borrow.Author.Needs.{needs}
+use Rattle.pps_lent.specs.Tables.{past-table}
+use Rattle.pps_lent.proofs.at_u32.Statement.{statement}
+use Rattle.pps_lent.proofs.at_u32.Tie as tie
+
+mul-result : tie.Need-mul-result
+mul-result c = search needs
+
+shared-slice-read-result : tie.Need-shared-slice-read-result
+shared-slice-read-result c = search needs
+
+returns : tie.Need-returns
+returns c = search needs
+
+returns-2 : tie.Need-returns-2
+returns-2 c = past-table (now (c .before .args .table)) (c .before .args .i) (c .if1 .left)
+
+pub at-u32-spec : {M : Type 1} → statement M
+at-u32-spec = tie.close (tie.spec mul-result shared-slice-read-result returns returns-2)

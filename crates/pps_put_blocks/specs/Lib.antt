@@ -1,0 +1,2 @@
+pub mod SubpicIdsPut
+pub mod ChromaPut

@@ -1,0 +1,5 @@
+pub mod Puts
+pub mod Made
+pub mod GridTests
+pub mod Rest
+pub mod Callers

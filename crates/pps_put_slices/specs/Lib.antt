@@ -1,0 +1,10 @@
+pub mod Stop
+pub mod StopSteps
+pub mod Sizes
+pub mod Signed
+pub mod Parts
+pub mod PartsMade
+pub mod Moved
+pub mod EntryPut
+pub mod Tabled
+pub mod Held

@@ -1,0 +1,3 @@
+pub mod SetPut
+pub mod Block
+pub mod Runs
