@@ -247,6 +247,30 @@ VvcPpsRead vvc_parse_pps(const uint8_t *nal, size_t nal_len, uint8_t *work, size
     size_t split_present_len, uint32_t *split_counts, size_t split_counts_len, uint8_t *delta_present, size_t delta_present_len,
     int32_t *deltas, size_t deltas_len, uint32_t *split_heights, size_t split_heights_len, int32_t triples[6][3]);
 
+/* Writes the RBSP of a picture parameter set, with its trailing bits. Refusals: 5, then 7 to 21 and 24 to 28 in the order in which the
+ * fields are written, then 29 where `out` is shorter than the bytes.
+ *
+ * The tables are those that reading fills, of the same lengths at least (else 5, as for a count in the record that passes its table).
+ * The extension bits are taken out of `extension`, from the bit that the record names on: after reading, the work buffer. Without any,
+ * `extension` may be empty. Flags over 1 are written as 1. An uncoded height is held to the grid alone, not to what reading infers, and
+ * the fields of absent blocks are not looked at.
+ *
+ * A refusal changes nothing, an acceptance only the bytes reported. */
+VvcByteCount vvc_write_pps(VvcPps pps, const uint32_t *subpic_ids, size_t subpic_ids_len, const uint32_t *tile_column_widths,
+    size_t tile_column_widths_len, const uint32_t *tile_row_heights, size_t tile_row_heights_len, const uint32_t *slice_widths,
+    size_t slice_widths_len, const uint32_t *slice_heights, size_t slice_heights_len, const uint8_t *split_present,
+    size_t split_present_len, const uint32_t *split_counts, size_t split_counts_len, const uint8_t *delta_present,
+    size_t delta_present_len, const int32_t *deltas, size_t deltas_len, const uint32_t *split_heights, size_t split_heights_len,
+    const int32_t triples[6][3], const uint8_t *extension, size_t extension_len, uint8_t *out, size_t out_len);
+
+/* Writes the NAL unit: 00 81, then the escaped RBSP. All else as in vvc_write_pps. */
+VvcByteCount vvc_write_pps_nal(VvcPps pps, const uint32_t *subpic_ids, size_t subpic_ids_len, const uint32_t *tile_column_widths,
+    size_t tile_column_widths_len, const uint32_t *tile_row_heights, size_t tile_row_heights_len, const uint32_t *slice_widths,
+    size_t slice_widths_len, const uint32_t *slice_heights, size_t slice_heights_len, const uint8_t *split_present,
+    size_t split_present_len, const uint32_t *split_counts, size_t split_counts_len, const uint8_t *delta_present,
+    size_t delta_present_len, const int32_t *deltas, size_t deltas_len, const uint32_t *split_heights, size_t split_heights_len,
+    const int32_t triples[6][3], const uint8_t *extension, size_t extension_len, uint8_t *out, size_t out_len);
+
 /* The number of bits of the ue(v) code of `v` (H.266 9.2). Refusal: 25 for 4294967295. */
 VvcUeSize vvc_ue_size(uint32_t v);
 

@@ -19,6 +19,7 @@ ghost use Rattle.vvc_pps.specs.Answers.{byteCount, nalHeader, ueSize};
 
 mod no_pps;
 pub mod reading;
+pub mod writing;
 
 use bit_reader::BitsRead;
 use bit_reader::Cursor;

@@ -2,6 +2,7 @@
 //! write.
 
 mod reading;
+mod sets;
 mod writing;
 
 use crate::ours::{self, Cursor};
@@ -16,7 +17,7 @@ const LONGEST: usize = 65_535;
 
 pub fn run() {
     println!(
-        "{:<44} {:>12} {:>12} {:>7}",
+        "{:<48} {:>12} {:>12} {:>7}",
         "ns/op", "ours", "Rust", "ratio"
     );
     let mut random = Random::new(1, "bench");
@@ -25,6 +26,7 @@ pub fn run() {
     extension_bits();
     writing::run(&mut random);
     reading::run();
+    sets::run();
 }
 
 /// The time of a call in nanoseconds. A call of a second and more is made once.
@@ -50,8 +52,8 @@ fn time<T>(mut call: impl FnMut() -> T) -> f64 {
 
 fn row(name: &str, ours: f64, original: Option<f64>) {
     match original {
-        Some(o) => println!("{name:<44} {ours:>12.1} {o:>12.1} {:>7.2}", ours / o),
-        None => println!("{name:<44} {ours:>12.1} {:>12} {:>7}", "-", "-"),
+        Some(o) => println!("{name:<48} {ours:>12.1} {o:>12.1} {:>7.2}", ours / o),
+        None => println!("{name:<48} {ours:>12.1} {:>12} {:>7}", "-", "-"),
     }
 }
 

@@ -8,6 +8,7 @@ mod header;
 mod ours;
 mod random;
 mod reading;
+mod sets;
 mod sizes;
 mod tally;
 mod writing;
@@ -23,6 +24,7 @@ const AREAS: &[Area] = &[
     sizes::AREA,
     writing::AREA,
     reading::AREA,
+    sets::AREA,
 ];
 
 fn main() -> ExitCode {

@@ -1,11 +1,13 @@
 //! The library's C interface (include/vvc_pps.h), with safe functions over it.
 
 mod pps;
+mod written;
 
 pub use pps::{
     ChromaToolOffsets, ConfWinOffsets, Deblocking, Partition, Pps, PpsRead, ScalingWinOffsets,
     SubpicIdMapping, Tables, parse_pps,
 };
+pub use written::{Given, write_pps, write_pps_nal};
 
 #[repr(C)]
 #[derive(Clone, Debug, PartialEq)]

@@ -1,26 +1,28 @@
 //! Reading a picture parameter set: the record, every lent table over its whole length, the work
-//! buffer and the refusals.
+//! buffer and the refusals. What was accepted is written and read again.
 
 mod cases;
 mod damage;
-mod expected;
+pub mod expected;
 mod known;
 mod lent;
 mod put;
 mod reach;
-mod second;
+mod round;
+pub mod second;
 mod slices;
 mod tiles;
 mod units;
 
-use crate::ours::PpsRead;
+use crate::ours::{Pps, PpsRead};
 use crate::tally::{Area, Hex, Tally};
 use lent::Runs;
 use original::BitstreamError;
 use original::h266::pps::{VvcPps, parse_pps};
 
 pub use known::SMALLEST;
-pub use lent::{Lengths, Lent};
+pub use lent::{Form, LEAST, Lengths, Lent};
+pub use units::unit;
 
 pub const AREA: Area = Area {
     name: "reading",
@@ -34,7 +36,7 @@ pub const AREA: Area = Area {
 const LONGEST_SPLIT: u32 = 1 << 16;
 
 #[derive(Clone, Copy, Debug, PartialEq)]
-enum Class {
+pub enum Class {
     Accepted,
     UnexpectedEnd,
     InvalidData,
@@ -45,18 +47,18 @@ enum Class {
 
 impl Class {
     /// As the table of refusals says.
-    fn of_number(number: u8) -> Self {
+    pub fn of_number(number: u8) -> Self {
         match number {
             0 => Class::Accepted,
             1 | 22 => Class::UnexpectedEnd,
-            2 | 6..=21 | 23 => Class::InvalidData,
-            3..=5 => Class::Added,
+            2 | 6..=21 | 23..=28 => Class::InvalidData,
+            3..=5 | 29 => Class::Added,
             _ => Class::Unknown,
         }
     }
 
-    fn of_original(read: &Result<VvcPps, BitstreamError>) -> Self {
-        match read {
+    pub fn of_original<T>(answer: &Result<T, BitstreamError>) -> Self {
+        match answer {
             Ok(_) => Class::Accepted,
             Err(BitstreamError::UnexpectedEnd(_)) => Class::UnexpectedEnd,
             Err(BitstreamError::InvalidData(_)) => Class::InvalidData,
@@ -122,7 +124,7 @@ fn compare_to(
 
     let given = nal.to_vec();
     let read = lent.parse_pps(&given);
-    let extension = extension(&read, lent.work.lent());
+    let extension = extension(&read.pps, lent.work.held());
     let ours = Answer {
         class: Class::of_number(read.refused),
         read,
@@ -133,12 +135,15 @@ fn compare_to(
     tally.compare(&ours, &expected, nal.len(), || {
         format!("read {:?} with {lengths:?}", Hex(nal))
     });
+    if ours.read.refused == 0 {
+        round::compare(nal, &lengths, &ours.read, &ours.lent, tally);
+    }
 }
 
 /// The extension bits that the record names, as far as they lie in the work buffer.
-fn extension(read: &PpsRead, work: &[u8]) -> Vec<u8> {
-    let first = read.pps.pps_extension_data_first_bit;
-    (0..read.pps.pps_extension_data_bits)
+pub fn extension(pps: &Pps, work: &[u8]) -> Vec<u8> {
+    let first = pps.pps_extension_data_first_bit;
+    (0..pps.pps_extension_data_bits)
         .map_while(|i| {
             let at = first.checked_add(i)?;
             Some(work.get(at / 8)? >> (7 - at % 8) & 1)

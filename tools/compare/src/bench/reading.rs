@@ -9,13 +9,26 @@ use original::h266::pps::{
 use std::hint::black_box;
 
 pub fn run() {
+    for (name, record) in records() {
+        let nal = write_pps_nal(&record).unwrap();
+        let mut lent = Lent::new(&Lengths::least(&nal));
+        row(
+            &format!("read a set, {name}"),
+            time(|| lent.parse_pps(black_box(&nal))),
+            Some(time(|| parse_pps(black_box(&nal)))),
+        );
+    }
+}
+
+/// Sets from the smallest to the largest.
+pub fn records() -> [(&'static str, VvcPps); 8] {
     let smallest = parse_pps(&SMALLEST).unwrap();
     let extended = |zeros: usize| VvcPps {
         pps_extension_flag: 1,
         pps_extension_data: [&vec![0; zeros * 8][..], &[1]].concat(),
         ..smallest.clone()
     };
-    let records = [
+    [
         ("unpartitioned", smallest.clone()),
         ("4 × 3 tiles, 6 slices", typical()),
         (
@@ -30,16 +43,7 @@ pub fn run() {
         ("1,000 slices of a tile", split()),
         ("800 extension bytes, zeros", extended(800)),
         ("8,000 extension bytes, zeros", extended(8000)),
-    ];
-    for (name, record) in records {
-        let nal = write_pps_nal(&record).unwrap();
-        let mut lent = Lent::new(&Lengths::least(&nal));
-        row(
-            &format!("read a set, {name}"),
-            time(|| lent.parse_pps(black_box(&nal))),
-            Some(time(|| parse_pps(black_box(&nal)))),
-        );
-    }
+    ]
 }
 
 fn slice(width_minus1: u32) -> VvcPpsRectSlice {

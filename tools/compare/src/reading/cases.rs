@@ -8,7 +8,7 @@ use super::units::{HEADER, nal, unit};
 use super::{compare, compare_lent, compare_to};
 use crate::random::Random;
 use crate::tally::Tally;
-use original::h266::pps::{VvcPps, parse_pps, write_pps_nal};
+use original::h266::pps::{VvcPps, parse_pps, write_pps, write_pps_nal};
 
 pub fn random(random: &mut Random, tally: &mut Tally) {
     let rarity = random.pick(&[0, 0, 0, 12, 40, 150, 600]);
@@ -135,7 +135,7 @@ fn long_units(random: &mut Random, tally: &mut Tally) {
 /// them; and nothing but zeros.
 fn zeros(tally: &mut Tally) {
     let smallest = parse_pps(&SMALLEST).expect("the smallest set");
-    for bits in [1, 7, 8, 64, 1000, 8 * 20_000, 8 * 43_000] {
+    for bits in [1, 7, 8, 64, 1000, 8 * 20_000, 8 * 43_000, 8 * 60_000] {
         let mut extension = vec![0; bits];
         extension.push(1);
         let record = VvcPps {
@@ -144,7 +144,11 @@ fn zeros(tally: &mut Tally) {
             ..smallest.clone()
         };
         let nal = write_pps_nal(&record).expect("a right record");
-        compare_to(|| Ok(record), &nal, Lengths::least(&nal), tally);
+        let rbsp = write_pps(&record).expect("a right record");
+        // Without escapes: what is written of it may be too long to be read.
+        for nal in [nal, [&HEADER[..], &rbsp].concat()] {
+            compare_to(|| Ok(record.clone()), &nal, Lengths::least(&nal), tally);
+        }
     }
     for len in (0..100).chain([LONGEST - 2]) {
         compare(&[&HEADER[..], &vec![0; len]].concat(), tally);

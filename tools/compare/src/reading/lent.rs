@@ -1,8 +1,8 @@
-//! What reading is lent: the work buffer and the tables, of any lengths, filled before the call, and
-//! a few places behind each that nobody may touch.
+//! What reading and writing are lent: the work buffer and the tables, of any lengths, filled before
+//! the call, and a few places behind each that nobody may touch.
 
 use crate::escape::GUARD;
-use crate::ours::{self, PpsRead, Tables};
+use crate::ours::{self, ByteCount, Given, Pps, PpsRead, Tables};
 use crate::random::Random;
 use std::fmt::{self, Debug};
 
@@ -76,6 +76,10 @@ impl<T: Copy> Table<T> {
     pub fn lent(&mut self) -> &mut [T] {
         &mut self.places[..self.len]
     }
+
+    pub fn held(&self) -> &[T] {
+        &self.places[..self.len]
+    }
 }
 
 impl<T: Copy + Default> Table<T> {
@@ -113,6 +117,13 @@ impl<T: PartialEq + Debug> Debug for Runs<'_, T> {
     }
 }
 
+/// What is written: the RBSP, or the NAL unit.
+#[derive(Clone, Copy, Debug)]
+pub enum Form {
+    Rbsp,
+    Nal,
+}
+
 #[derive(Clone, Debug, PartialEq)]
 pub struct Lent {
     pub work: Table<u8>,
@@ -148,6 +159,24 @@ impl Lent {
         }
     }
 
+    pub fn lengths(&self) -> Lengths {
+        Lengths {
+            work: self.work.len,
+            tables: [
+                self.subpic_ids.len,
+                self.tile_column_widths.len,
+                self.tile_row_heights.len,
+                self.slice_widths.len,
+                self.slice_heights.len,
+                self.split_present.len,
+                self.split_counts.len,
+                self.delta_present.len,
+                self.deltas.len,
+                self.split_heights.len,
+            ],
+        }
+    }
+
     pub fn parse_pps(&mut self, nal: &[u8]) -> PpsRead {
         let tables = Tables {
             subpic_ids: self.subpic_ids.lent(),
@@ -163,6 +192,28 @@ impl Lent {
             triples: &mut self.triples,
         };
         ours::parse_pps(nal, self.work.lent(), tables)
+    }
+
+    /// Writes a record with these tables, its extension bits out of the work buffer.
+    pub fn write_pps(&self, pps: &Pps, form: Form, out: &mut [u8]) -> ByteCount {
+        let given = Given {
+            subpic_ids: self.subpic_ids.held(),
+            tile_column_widths: self.tile_column_widths.held(),
+            tile_row_heights: self.tile_row_heights.held(),
+            slice_widths: self.slice_widths.held(),
+            slice_heights: self.slice_heights.held(),
+            split_present: self.split_present.held(),
+            split_counts: self.split_counts.held(),
+            delta_present: self.delta_present.held(),
+            deltas: self.deltas.held(),
+            split_heights: self.split_heights.held(),
+            triples: &self.triples,
+            extension: self.work.held(),
+        };
+        match form {
+            Form::Rbsp => ours::write_pps(pps, &given, out),
+            Form::Nal => ours::write_pps_nal(pps, &given, out),
+        }
     }
 
     pub fn clear_tables(&mut self) {

@@ -5,7 +5,7 @@ use crate::tally::Tally;
 use original::h266::pps::VvcPps;
 
 /// The first 24 by the number of the refusal.
-pub const REACH: [&str; 24 + 18] = [
+pub const REACH: [&str; 24 + 19] = [
     "accepted",
     "refused with 1",
     "2",
@@ -48,6 +48,7 @@ pub const REACH: [&str; 24 + 18] = [
     "extension bits",
     "escape bytes",
     "65,535 bytes",
+    "written longer than that",
 ];
 
 pub fn number(second: &Second, tally: &mut Tally) {
@@ -55,6 +56,11 @@ pub fn number(second: &Second, tally: &mut Tally) {
     if second.seen.early_17 > 0 {
         tally.reached(24);
     }
+}
+
+/// What is written of an accepted set is too long to be read again.
+pub fn too_long(tally: &mut Tally) {
+    tally.reached(42);
 }
 
 /// Of a set that is accepted.

@@ -3,7 +3,7 @@
 //! our numbers are held to this, which is neither the library nor the original.
 
 mod bits;
-mod partition;
+pub mod partition;
 
 use bits::Bits;
 use original::nal::ebsp_to_rbsp;
@@ -69,7 +69,7 @@ fn before_fields(nal: &[u8], work_len: usize, tables_long: bool) -> u8 {
 }
 
 /// The number, where what must hold does not.
-fn must(holds: bool, number: u8) -> Result<(), u8> {
+pub fn must(holds: bool, number: u8) -> Result<(), u8> {
     if holds { Ok(()) } else { Err(number) }
 }
 

@@ -3,9 +3,9 @@
 use super::bits::Bits;
 use super::{Seen, must};
 
-struct Grid {
-    columns: u64,
-    row_heights: Vec<u64>,
+pub struct Grid {
+    pub columns: u64,
+    pub row_heights: Vec<u64>,
 }
 
 pub fn read(b: &mut Bits<'_>, width: u32, height: u32, seen: &mut Seen) -> Result<(), u8> {
@@ -58,7 +58,7 @@ fn sizes(b: &mut Bits<'_>, count_minus1: u32, ctbs: u64) -> Result<Vec<u64>, u8>
 }
 
 /// All sizes: the explicit ones, the last of them repeated, and a tail.
-fn filled(explicit: &[u64], ctbs: u64, most: u64) -> Result<Vec<u64>, u8> {
+pub fn filled(explicit: &[u64], ctbs: u64, most: u64) -> Result<Vec<u64>, u8> {
     let sum: u64 = explicit.iter().sum();
     must(sum <= ctbs, 12)?;
     let mut sizes = explicit.to_vec();
@@ -73,12 +73,21 @@ fn filled(explicit: &[u64], ctbs: u64, most: u64) -> Result<Vec<u64>, u8> {
 }
 
 impl Grid {
-    fn rows(&self) -> u64 {
+    pub fn rows(&self) -> u64 {
         self.row_heights.len() as u64
     }
 
-    fn tiles(&self) -> u64 {
+    pub fn tiles(&self) -> u64 {
         self.columns * self.rows()
+    }
+
+    /// The tile of the next slice without deltas, for a slice of so many tiles minus 1.
+    pub fn next(&self, tile: u64, width: u64, height: u64) -> Result<u64, u8> {
+        let next = tile + width + 1;
+        let at_row_end = next.is_multiple_of(self.columns);
+        let to = next + if at_row_end { height * self.columns } else { 0 };
+        must(to < self.tiles(), 19)?;
+        Ok(to)
     }
 }
 
@@ -116,11 +125,7 @@ fn slices(
             tile = if deltas {
                 moved(tile, b.se()?, grid.tiles())?
             } else {
-                let next = tile + width + 1;
-                let at_row_end = next % grid.columns == 0;
-                let to = next + if at_row_end { height * grid.columns } else { 0 };
-                must(to < grid.tiles(), 19)?;
-                to
+                grid.next(tile, width, height)?
             };
         }
         slice += 1;
@@ -142,17 +147,22 @@ fn split(b: &mut Bits<'_>, row_height: u64, left: u64, seen: &mut Seen) -> Resul
         must(height_minus1 < row_height, 16)?;
         heights.push(height_minus1 + 1);
     }
+    slices_of_tile(&heights, row_height, left)
+}
+
+/// The explicit heights, the last of them repeated, and a tail; one slice without any.
+pub fn slices_of_tile(heights: &[u64], row_height: u64, left: u64) -> Result<u64, u8> {
     let Some(&last) = heights.last() else {
         return Ok(1);
     };
     let sum: u64 = heights.iter().sum();
     must(sum <= row_height, 16)?;
-    let slices = u64::from(count) + (row_height - sum).div_ceil(last);
+    let slices = heights.len() as u64 + (row_height - sum).div_ceil(last);
     must(slices <= left, 17)?;
     Ok(slices)
 }
 
-fn moved(tile: u64, delta: i64, tiles: u64) -> Result<u64, u8> {
+pub fn moved(tile: u64, delta: i64, tiles: u64) -> Result<u64, u8> {
     must(delta != 0 && delta.unsigned_abs() < tiles, 18)?;
     let to = tile as i64 + delta;
     must((0..tiles as i64).contains(&to), 18)?;

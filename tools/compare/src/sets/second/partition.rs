@@ -1,0 +1,91 @@
+//! The partition block of a set to be written: tiles, then the rectangular slices (H.266 6.5.1,
+//! 7.4.3.5).
+
+use crate::ours::{Partition, Pps};
+use crate::reading::Lent;
+use crate::reading::second::must;
+use crate::reading::second::partition::{Grid, filled, moved, slices_of_tile};
+
+pub fn tested(pps: &Pps, lent: &Lent) -> Result<(), u8> {
+    let p = &pps.partition;
+    let grid = grid(pps, lent)?;
+    must(grid.tiles() > 1 || p.pps_rect_slice_flag == 1, 26)?;
+    if p.pps_rect_slice_flag != 0 && p.pps_single_slice_per_subpic_flag == 0 {
+        must(p.pps_num_slices_in_pic_minus1 <= 999, 14)?;
+        slices(p, &grid, lent)
+    } else {
+        must(p.num_rect_slices == 0, 26)
+    }
+}
+
+/// The picture in CTBs.
+pub fn ctbs(pps: &Pps) -> Result<[u64; 2], u8> {
+    let log2_minus5 = pps.partition.pps_log2_ctu_size_minus5;
+    must(log2_minus5 <= 2, 9)?;
+    let in_ctbs = |samples: u32| u64::from(samples).div_ceil(32 << log2_minus5);
+    Ok([
+        in_ctbs(pps.pps_pic_width_in_luma_samples),
+        in_ctbs(pps.pps_pic_height_in_luma_samples),
+    ])
+}
+
+pub fn grid(pps: &Pps, lent: &Lent) -> Result<Grid, u8> {
+    let p = &pps.partition;
+    let [width, height] = ctbs(pps)?;
+    let widths = sizes(lent.tile_column_widths.held(), p.num_tile_column_widths);
+    let heights = sizes(lent.tile_row_heights.held(), p.num_tile_row_heights);
+    must(!widths.is_empty() && !heights.is_empty(), 10)?;
+    must(widths.iter().all(|&size| size <= width), 11)?;
+    must(heights.iter().all(|&size| size <= height), 11)?;
+    let columns = filled(&widths, width, 30)?.len() as u64;
+    let row_heights = filled(&heights, height, 990 / columns)?;
+    Ok(Grid {
+        columns,
+        row_heights,
+    })
+}
+
+/// The first entries of a table of sizes or heights minus 1.
+fn sizes(table: &[u32], count: u32) -> Vec<u64> {
+    let sizes = table.iter().map(|&minus1| u64::from(minus1) + 1);
+    sizes.take(count as usize).collect()
+}
+
+fn slices(p: &Partition, grid: &Grid, lent: &Lent) -> Result<(), u8> {
+    let last = u64::from(p.pps_num_slices_in_pic_minus1);
+    let deltas = p.pps_tile_idx_delta_present_flag != 0;
+    let mut split_heights = lent.split_heights.held();
+    let (mut slice, mut tile, mut entry) = (0, 0, 0);
+    while slice < last {
+        must(entry < p.num_rect_slices as usize, 26)?;
+        let width = u64::from(lent.slice_widths.held()[entry]);
+        let height = u64::from(lent.slice_heights.held()[entry]);
+        let (column, row) = (tile % grid.columns, tile / grid.columns);
+        must(column + width < grid.columns, 15)?;
+        must(row + height < grid.rows(), 15)?;
+        let row_height = grid.row_heights[row as usize];
+        let may_split = width == 0 && height == 0 && row_height > 1;
+        must((lent.split_present.held()[entry] != 0) == may_split, 26)?;
+        if may_split {
+            let count = lent.split_counts.held()[entry];
+            must(u64::from(count) < row_height, 16)?;
+            let heights = sizes(split_heights, count);
+            must(heights.iter().all(|&height| height <= row_height), 16)?;
+            split_heights = &split_heights[count as usize..];
+            slice += slices_of_tile(&heights, row_height, last - slice + 1)? - 1;
+        }
+        // A delta stands where deltas are on and slices are to come.
+        let delta = lent.delta_present.held()[entry] != 0;
+        must(delta == (deltas && slice < last), 26)?;
+        if delta {
+            let delta = lent.deltas.held()[entry];
+            must(delta != i32::MIN, 25)?;
+            tile = moved(tile, delta.into(), grid.tiles())?;
+        } else if slice < last {
+            tile = grid.next(tile, width, height)?;
+        }
+        slice += 1;
+        entry += 1;
+    }
+    must(entry == p.num_rect_slices as usize, 26)
+}
