@@ -10,7 +10,7 @@ use lib.Seq.{take-append-seam, length-take-le}
 use Rattle.bit_reader.specs.declared.Cursor.{Cursor}
 use Rattle.partition.specs.Grid.{Grid, columns, rows, maxTileColumns, maxTiles}
 use Rattle.tile_grid.specs.declared.TileGrid.{TileGrid}
-use Rattle.tile_grid.specs.Answers.{zeros, tableOf}
+use Rattle.tile_sizes.specs.Padded.{zeros, tableOf}
 use Rattle.pps_syntax.specs.SliceTables.{SliceTables}
 use Rattle.pps_slices.specs.Limits.{gridOf, withinLimits, limits-held}
 use Rattle.pps_partition.specs.Block.{several}

@@ -94,7 +94,7 @@ pub record Numbers32 (W H : ℕ) (r : PartitionBlock) : Type 0 where
   pub deltas : Deltas32 (r .rectSlices)
 
 -- a picture has no more CTBs than samples on an axis
-ctbs-most : (samples ctu : ℕ) → inCtbs samples ctu ≤ samples
+pub ctbs-most : (samples ctu : ℕ) → inCtbs samples ctu ≤ samples
 unfolding inCtbs
 ctbs-most samples ctu =
     let s : ℕ = 2 ^ (5 + ctu) in

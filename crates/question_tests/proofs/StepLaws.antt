@@ -11,11 +11,11 @@ use Rattle.partition.specs.Entry.{Entry, Position, asking, splitCoded, lastSlic
 use Rattle.partition.specs.Sizes.{sum, explicitSizes}
 use Rattle.slice_loop.specs.declared.TileIdx.{TileIdx}
 use Rattle.slice_loop.specs.declared.SliceIdx.{SliceIdx}
-use Rattle.slice_loop.specs.Laws.{held-tile, delta-tile}
 use Rattle.tile_sizes.specs.Answers.{slicesInTile}
 use Rattle.question_tests.specs.declared.entries.EntryAt.{EntryAt}
 use Rattle.question_tests.specs.Tables.{entryWith}
 use Rattle.question_tests.specs.Steps.{position, movedTo, Stepped}
+use Rattle.question_tests.specs.Walking.{tile-after}
 use Rattle.question_tests.proofs.TestLaws.{lists-made}
 use Rattle.question_tests.proofs.EntryLaws.{behind}
 
@@ -48,16 +48,6 @@ zero-number : (cs ds : List Check) → AllPass (cs ++ ds) → numberOf (firstBad
 unfolding AllPass firstBad numberOf
 zero-number [] ds a = refl
 zero-number (c ∷ cs) ds a = rw (a .0) (zero-number cs ds (a .1))
-
--- the next tile, where the way to it passed and slices are to come
-tile-after : (C T : ℕ) (d : Bool) (t : ℕ) (e : EntryAt) (hs : List ℕ) → T ≤ 4294967295 → AllPass (moveChecks C T d true t (entryWith e hs)) → movedTo C T d t e .0 ≡ nextTile C d t (entryWith e hs)
-unfolding moveChecks AllPass movedTo nextTile
-tile-after C T true t e hs small a = delta-tile T t (e .delta) small (present (e .«delta_present») (a .0) (deltaRefused T t (e .delta)) (a .1 .1 .0))
-  where
-    present : (b : Bool) → not (Bool·beq b true) ≡ false → (r : Bool) → (b && r) ≡ false → r ≡ false
-    present true p r q = q
-    present false p r q = absurd (let z : _≡_ {A = ℕ} 0 1 = cc in omega arith)
-tile-after C T false t e hs small a = held-tile (defaultAdvance C t (e .width) (e .height)) (omega (arith, leb-false T (defaultAdvance C t (e .width) (e .height)) (a .1 .1 .1 .0)))
 
 module _ (C R row : ℕ) (d : Bool) (N i t p : ℕ) (e : EntryAt) (hs : List ℕ) (small : R * C ≤ 4294967295) (few : N ≤ 999) (split : Bool) (n : ℕ) (sp : split ≡ splitCoded (e .width) (e .height) row)
     (ns : n ≡ cond split (slicesInTile hs row .«num_slices») 1) (b : SliceIdx) (bs : b .0 ≡ min 4294967295 (i + n)) where

@@ -3,3 +3,4 @@ pub mod Steps
 pub mod Tables
 pub mod Walking
 pub mod Refusing
+pub mod Sliced

@@ -35,7 +35,7 @@ unfolding after walkRefusal
 after-number p (refused n) = refl
 after-number p (placed ps) = refl
 
-no-entries : (t : SliceTables) (i j m : ℕ) → m ≡ 0 → entriesFrom t i j m ≡ []
+pub no-entries : (t : SliceTables) (i j m : ℕ) → m ≡ 0 → entriesFrom t i j m ≡ []
 unfolding slicesFrom
 no-entries t i j zero e = refl
 no-entries t i j (suc m) e = absurd (omega arith)

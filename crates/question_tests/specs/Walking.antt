@@ -2,19 +2,21 @@
 use Prim.Native.Nat.{ℕ, zero, suc, _+_, _-_, _≤_, _<_, min}
 use mathlib.Core.Path.{_≡_, refl, ap, _∙_}
 use mathlib.Core.List.{List, [], _∷_, map}
-use mathlib.Core.Bool.{Bool, true, false}
+use mathlib.Core.Bool.{Bool, true, false, not, _&&_, Bool·beq}
 use native.Mathlib.Omega.{arith}
 use lib.Dec.{ltb}
 use lib.ListN.{length, take, drop, length-drop, drop-of-length-le}
 use lib.Seq.{take-nil}
-use borrow.Author.Tests.{ltb-true, ltb-false}
-use Rattle.partition.specs.Entry.{Entry, Position, firstPosition, nextPosition}
+use borrow.Author.Tests.{ltb-true, ltb-false, leb-false}
+use Rattle.partition.specs.Checks.{AllPass}
+use Rattle.partition.specs.Entry.{Entry, Position, firstPosition, nextPosition, defaultAdvance, deltaRefused, nextTile, moveChecks}
 use Rattle.partition.specs.Grid.{Grid, columns}
 use Rattle.partition.specs.Walk.{rowHeightOf, onward}
 use Rattle.pps_syntax.specs.SliceSyntax.{entryOf}
 use Rattle.pps_syntax.specs.SliceTables.{SliceTables, splitCount, sliceAt, slicesFrom}
+use Rattle.slice_loop.specs.Laws.{held-tile, delta-tile}
 use Rattle.question_tests.specs.declared.entries.EntryAt.{EntryAt}
-use Rattle.question_tests.specs.Steps.{position}
+use Rattle.question_tests.specs.Steps.{position, movedTo}
 use Rattle.question_tests.specs.Tables.{entryAt, entryWith}
 
 -- ---- the explicit slice heights of an entry
@@ -85,3 +87,15 @@ module _ {N : ℕ} {t : SliceTables} {at : Position} {j slice tile preceding fro
         precedes = refl;
         placeIs = omega (arith, S .placeIs);
       }
+
+-- ---- the next tile
+
+-- where the way to it passed and slices are to come
+pub tile-after : (C T : ℕ) (d : Bool) (t : ℕ) (e : EntryAt) (hs : List ℕ) → T ≤ 4294967295 → AllPass (moveChecks C T d true t (entryWith e hs)) → movedTo C T d t e .0 ≡ nextTile C d t (entryWith e hs)
+unfolding moveChecks AllPass movedTo nextTile
+tile-after C T true t e hs small a = delta-tile T t (e .delta) small (present (e .«delta_present») (a .0) (deltaRefused T t (e .delta)) (a .1 .1 .0))
+  where
+    present : (b : Bool) → not (Bool·beq b true) ≡ false → (r : Bool) → (b && r) ≡ false → r ≡ false
+    present true p r q = q
+    present false p r q = absurd (let z : _≡_ {A = ℕ} 0 1 = cc in omega arith)
+tile-after C T false t e hs small a = held-tile (defaultAdvance C t (e .width) (e .height)) (omega (arith, leb-false T (defaultAdvance C t (e .width) (e .height)) (a .1 .1 .1 .0)))

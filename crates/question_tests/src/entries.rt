@@ -1,11 +1,14 @@
 // The entries of the slice loop as they stand in their tables; a place outside a table reads as 0.
 ghost use mathlib.Core.Path.{_≡_};
 ghost use mathlib.Core.List.{[]};
-ghost use Prim.Native.Nat.{_+_, min};
+ghost use Prim.Native.Nat.{_+_, _*_, min};
 ghost use lib.IntN.{pos};
 ghost use lib.ListN.{getD};
 ghost use Rattle.pps_syntax.specs.SliceTables.{sliceTables, splitCount};
+ghost use Rattle.question_tests.specs.Steps.{movedTo};
 ghost use Rattle.question_tests.specs.Tables.{splitTables, entryAt};
+use slice_loop::SliceLoopCtx;
+use slice_loop::TileIdx;
 
 // An entry, but for its explicit slice heights; so many of them are in their table.
 pub struct EntryAt {
@@ -96,4 +99,15 @@ pub fn place_after(length: usize, from: usize, count: u32) -> usize
         return length;
     }
     from + n
+}
+
+// The tile of the next slice, where the entry's tests pass and slices are to come.
+pub fn next_tile(ctx: SliceLoopCtx, tile: TileIdx, e: EntryAt) -> TileIdx
+    ensures { λ r. ⌜ r ≡ movedTo (ctx .«num_tile_columns») (ctx .«num_tile_rows» * ctx .«num_tile_columns») (ctx .«delta_present») (tile .0) e ⌝ }
+{
+    if ctx.delta_present {
+        let to = ctx.apply_delta(tile, e.delta);
+        return to.tile_idx;
+    }
+    ctx.default_advance(tile, e.width, e.height)
 }

@@ -9,8 +9,9 @@ ghost use Rattle.partition.specs.Entry.{asking, splitCoded, tileRowHeight, size
 ghost use Rattle.partition.specs.Sizes.{sum, explicitSizes};
 ghost use Rattle.tile_sizes.specs.Answers.{slicesInTile};
 ghost use Rattle.question_tests.specs.Tables.{entryWith};
-ghost use Rattle.question_tests.specs.Steps.{position, movedTo, Stepped};
+ghost use Rattle.question_tests.specs.Steps.{position, Stepped};
 use super::entries::EntryAt;
+use super::entries::next_tile;
 use super::tested::first;
 use super::tested::same;
 use super::tested::tested;
@@ -104,17 +105,6 @@ fn move_refusal(ctx: SliceLoopCtx, tile: TileIdx, more: bool, e: EntryAt) -> u8
     let c = tested(18, e.delta_present & (by_delta.refused != 0), d);
     let b = tested(25, e.delta_present & uncodable, c);
     tested(26, !agrees, b)
-}
-
-// The tile of the next slice, where the entry's tests pass and slices are to come.
-pub fn next_tile(ctx: SliceLoopCtx, tile: TileIdx, e: EntryAt) -> TileIdx
-    ensures { λ r. ⌜ r ≡ movedTo (ctx .«num_tile_columns») (ctx .«num_tile_rows» * ctx .«num_tile_columns») (ctx .«delta_present») (tile .0) e ⌝ }
-{
-    if ctx.delta_present {
-        let to = ctx.apply_delta(tile, e.delta);
-        return to.tile_idx;
-    }
-    ctx.default_advance(tile, e.width, e.height)
 }
 
 // The index behind `count` slices from this one on, held in 32 bits.

@@ -1,1 +1,5 @@
 pub mod Stacking
+pub mod Starts
+pub mod Plans
+pub mod PlanLaws
+pub mod Placing

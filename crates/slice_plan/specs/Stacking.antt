@@ -6,7 +6,6 @@ use native.Mathlib.Numerals.{add-one}
 use native.Mathlib.Omega.{arith}
 use lib.ListN.{length, getD, set, drop}
 use lib.Seq.{sets, length-sets, drop-drop}
-use Rattle.partition.specs.Axis.{boundary, boundary-suc, boundary-le}
 use Rattle.partition.specs.Entry.{splitHeights}
 use Rattle.partition.specs.Groups.{stacked}
 use Rattle.partition.specs.Sizes.{sum, explicitSizes, uniformSize, axisSizes, Fit, uniform-pos}
@@ -28,7 +27,7 @@ unfoldable pub putPlan : PlanTables → ℕ → List Slice → PlanTables
 putPlan t i ss =
     planTables (sets (t .lefts) i (map (λ s. s .left) ss)) (sets (t .tops) i (map (λ s. s .top) ss)) (sets (t .widths) i (map (λ s. s .width) ss)) (sets (t .heights) i (map (λ s. s .height) ss))
 
-tables-are : (u : PlanTables) (a b c d : List ℕ) → u .lefts ≡ a → u .tops ≡ b → u .widths ≡ c → u .heights ≡ d → u ≡ planTables a b c d
+pub tables-are : (u : PlanTables) (a b c d : List ℕ) → u .lefts ≡ a → u .tops ≡ b → u .widths ≡ c → u .heights ≡ d → u ≡ planTables a b c d
 tables-are u a b c d p q r s = rw (← p, ← q, ← r, ← s)
 
 -- one slice, then the others
@@ -48,11 +47,19 @@ put-both (s ∷ a) b t i =
     put-one t i s (a ++ b) ∙ put-both a b _ (i + 1) ∙ rw (put-one t i s a, z)
 
 -- as long as they were
-pub put-lengths : (t : PlanTables) (i : ℕ) (ss : List Slice)
+put-lengths : (t : PlanTables) (i : ℕ) (ss : List Slice)
     → (length (putPlan t i ss .lefts) ≡ length (t .lefts)) × (length (putPlan t i ss .tops) ≡ length (t .tops)) × (length (putPlan t i ss .widths) ≡ length (t .widths)) × (length (putPlan t i ss .heights) ≡ length (t .heights))
 unfolding putPlan
 put-lengths t i ss =
     (length-sets (t .lefts) i (map (λ s. s .left) ss), length-sets (t .tops) i (map (λ s. s .top) ss), length-sets (t .widths) i (map (λ s. s .width) ss), length-sets (t .heights) i (map (λ s. s .height) ss))
+
+-- as long as others from which the same come
+pub kept-lengths : (t u : PlanTables) (i j : ℕ) (a b : List Slice) → putPlan t i a ≡ putPlan u j b
+    → (length (u .lefts) ≡ length (t .lefts)) × (length (u .tops) ≡ length (t .tops)) × (length (u .widths) ≡ length (t .widths)) × (length (u .heights) ≡ length (t .heights))
+kept-lengths t u i j a b e =
+    let p = put-lengths t i a in
+    let q = put-lengths u j b in
+    (sym (q .0) ∙ ap (λ (x : PlanTables). length (x .lefts)) (sym e) ∙ p .0, sym (q .1) ∙ ap (λ (x : PlanTables). length (x .tops)) (sym e) ∙ p .1, sym (q .2) ∙ ap (λ (x : PlanTables). length (x .widths)) (sym e) ∙ p .2, sym (q .3) ∙ ap (λ (x : PlanTables). length (x .heights)) (sym e) ∙ p .3)
 
 -- ---- the height that repeats
 
@@ -121,10 +128,7 @@ module _ {es : List ℕ} {left width top total : ℕ} {t₀ : PlanTables} {from 
       (sym (S .counted ∙ rw e (omega arith)), sym (S .tables ∙ rw e (put-none t k)))
 
   pub stacking-lengths : (length (t .lefts) ≡ length (t₀ .lefts)) × (length (t .tops) ≡ length (t₀ .tops)) × (length (t .widths) ≡ length (t₀ .widths)) × (length (t .heights) ≡ length (t₀ .heights))
-  stacking-lengths =
-      let a = put-lengths t₀ from (stacked left width top (splitHeights es total)) in
-      let b = put-lengths t k (stacked left width y (sizesLeft (drop j es) (stackUnit es total) remaining)) in
-      (sym (b .0) ∙ ap (λ (x : PlanTables). length (x .lefts)) (sym (S .tables)) ∙ a .0, sym (b .1) ∙ ap (λ (x : PlanTables). length (x .tops)) (sym (S .tables)) ∙ a .1, sym (b .2) ∙ ap (λ (x : PlanTables). length (x .widths)) (sym (S .tables)) ∙ a .2, sym (b .3) ∙ ap (λ (x : PlanTables). length (x .heights)) (sym (S .tables)) ∙ a .3)
+  stacking-lengths = kept-lengths t₀ t from k (stacked left width top (splitHeights es total)) (stacked left width y (sizesLeft (drop j es) (stackUnit es total) remaining)) (S .tables)
 
   module _ (more : 1 ≤ remaining) (h : ℕ) (made : h ≡ min (nextSize (drop j es) (stackUnit es total) remaining) remaining) where
     fits : (1 ≤ nextSize (drop j es) (stackUnit es total) remaining) × (nextSize (drop j es) (stackUnit es total) remaining ≤ remaining) × Fit (drop 1 (drop j es)) (remaining - nextSize (drop j es) (stackUnit es total) remaining)
@@ -156,39 +160,6 @@ module _ {es : List ℕ} {left width top total : ℕ} {t₀ : PlanTables} {from 
           index = omega (arith, S .index);
           some = S .some;
         }
-
--- ---- the sum of the first sizes
-
-past : (ss : List ℕ) (i c : ℕ) → length ss ≤ i → length ss ≤ c → boundary ss i ≡ boundary ss c
-unfolding boundary
-past [] i c h l = refl
-past (s ∷ ss) zero c h l = absurd (omega arith)
-past (s ∷ ss) (suc i) zero h l = absurd (omega arith)
-past (s ∷ ss) (suc i) (suc c) h l = ap (λ (n : ℕ). s + n) (past ss i c (omega arith) (omega arith))
-
--- What is summed: the sizes before i.
-pub record Summing (ss : List ℕ) (c total i : ℕ) : Type 0 where
-  pub is : total ≡ boundary ss i
-  pub before : i ≤ c
-  pub within : i ≤ length ss
-
-pub summing-begins : (ss : List ℕ) (c : ℕ) → Summing ss c 0 0
-unfolding boundary
-summing-begins [] c = record { is = refl; before = omega arith; within = omega arith }
-summing-begins (s ∷ ss) c = record { is = refl; before = omega arith; within = omega arith }
-
-module _ {ss : List ℕ} {c total i : ℕ} (S : Summing ss c total i) where
-  pub summing-stops : c ≤ i → total ≡ boundary ss c
-  summing-stops h = let e : i ≡ c = omega (arith, S .before) in S .is ∙ ap (boundary ss) e
-
-  pub summing-fits : sum ss ≤ 4294967295 → total + getD ss i 0 ≤ 4294967295
-  summing-fits l = omega (arith, S .is, boundary-suc ss i, boundary-le ss (suc i))
-
-  pub summing-goes-on : i < length ss → i < c → Summing ss c (total + getD ss i 0) (i + 1)
-  summing-goes-on h l = record { is = omega (arith, S .is, boundary-suc ss i, ap (boundary ss) (add-one i)); before = omega arith; within = omega arith }
-
-  pub summing-ends : length ss ≤ i → total ≡ boundary ss c
-  summing-ends h = S .is ∙ past ss i c h (omega (arith, S .before, S .within))
 
 -- the height that repeats, by its definition
 pub with-unit : (es : List ℕ) (j u v remaining h : ℕ) → h ≡ min (nextSize (drop j es) u remaining) remaining → u ≡ v → h ≡ min (nextSize (drop j es) v remaining) remaining

@@ -2,10 +2,9 @@
 ghost use mathlib.Core.Path.{_≡_};
 ghost use Prim.Native.Nat.{_+_, _≤_};
 ghost use lib.ListN.{length, set};
-ghost use Rattle.partition.specs.Axis.{boundary};
 ghost use Rattle.partition.specs.Entry.{splitHeights};
 ghost use Rattle.partition.specs.Groups.{stacked};
-ghost use Rattle.partition.specs.Sizes.{sum, Fit};
+ghost use Rattle.partition.specs.Sizes.{Fit};
 ghost use Rattle.slice_plan.specs.Stacking.{planTables, putPlan, stackUnit};
 use tile_sizes::next_size;
 
@@ -19,7 +18,8 @@ fn put_u32(table: &mut [u32], i: u32, v: u32)
     table[k] = v;
 }
 
-fn put_slice(
+// A block's left, top, width and height, each into its table.
+pub fn put_rect(
     lefts: &mut [u32],
     tops: &mut [u32],
     widths: &mut [u32],
@@ -39,24 +39,6 @@ fn put_slice(
     put_u32(tops, i, top);
     put_u32(widths, i, width);
     put_u32(heights, i, height);
-}
-
-// Where column or row c begins.
-pub fn sum_to(sizes: &[u32], c: u32) -> u32
-    requires { ⌜ sum (now sizes) ≤ 4294967295 ⌝ }
-    ensures { λ r. ⌜ r ≡ boundary (now (sizes .entry)) c ⌝ }
-{
-    let n = c as usize;
-    let mut total: u32 = 0;
-    let mut i = 0;
-    while i < sizes.len() {
-        if i >= n {
-            return total;
-        }
-        total += sizes[i];
-        i += 1;
-    }
-    total
 }
 
 // The height that repeats: the last explicit one, or all of them.
@@ -94,7 +76,7 @@ pub fn stack(
     let mut j: usize = 0;
     while remaining > 0 {
         let h = next_size(heights_minus1, unit, j, remaining);
-        put_slice(lefts, tops, widths, heights, k, left, y, width, h);
+        put_rect(lefts, tops, widths, heights, k, left, y, width, h);
         y += h;
         remaining -= h;
         k += 1;

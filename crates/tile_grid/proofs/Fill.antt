@@ -4,13 +4,14 @@ use mathlib.Core.List.{List, [], _∷_, _++_, append-assoc, append-nil}
 use Prim.Native.Nat.{ℕ, zero, suc, _+_, _-_, _≤_, _<_, min}
 use native.Mathlib.Numerals.{add-one}
 use native.Mathlib.Omega.{arith}
-use lib.ListN.{length, getD, take, drop, set, replicate, length-append, length-set, length-take, take-append-drop}
+use lib.ListN.{length, getD, take, drop, set, length-append, length-set, length-take, take-append-drop}
 use lib.Seq.{drop-drop, take-suc-set, drop-set-lt}
 use Rattle.partition.specs.Grid.{maxTileColumns, maxTiles}
 use Rattle.partition.specs.Sizes.{axisSizes, Fit}
 use Rattle.tile_sizes.specs.Answers.{nextSize}
 use Rattle.tile_sizes.specs.Left.{sizesLeft, next-fits, next-left, end-left, last-is}
-use Rattle.tile_grid.specs.Answers.{zeros, tableOf, gridOfSizes}
+use Rattle.tile_sizes.specs.Padded.{tableOf}
+use Rattle.tile_grid.specs.Answers.{gridOfSizes}
 
 -- ---- the table
 
@@ -79,18 +80,6 @@ filling-ends es whole u old out remaining j z f =
   where
     w : whole ≡ take j out
     w = f .done ∙ ap (λ (l : List ℕ). take j out ++ l) (end-left (drop j es) u remaining z (f .fit)) ∙ append-nil (take j out)
-
--- ---- a table of zeros, filled
-
-drop-zeros : (n k : ℕ) → drop k (zeros n) ≡ zeros (n - k)
-unfolding zeros
-drop-zeros n zero = let e : n - 0 ≡ n = omega arith in rw e
-drop-zeros zero (suc k) = let e : 0 - suc k ≡ 0 = omega arith in rw e
-drop-zeros (suc n) (suc k) = let e : suc n - suc k ≡ n - k = omega arith in rw e (drop-zeros n k)
-
-pub filled-table : (n : ℕ) (ss out : List ℕ) → out ≡ ss ++ drop (length ss) (replicate n 0) → out ≡ tableOf n ss
-unfolding tableOf zeros
-filled-table n ss out e = e ∙ ap (λ (l : List ℕ). ss ++ l) (drop-zeros n (length ss))
 
 pub grid-made : (ws hs a b : List ℕ) (columns rows : ℕ) → columns ≡ length ws → rows ≡ length hs → a ≡ tableOf maxTileColumns ws → b ≡ tableOf maxTiles hs
     → record { refused = 0; grid = record { «num_tile_columns» = columns; «num_tile_rows» = rows; «column_widths» = a; «row_heights» = b } } ≡ gridOfSizes ws hs

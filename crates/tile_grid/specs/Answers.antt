@@ -1,21 +1,15 @@
 -- What the functions of this crate answer, by the definitions of `partition`.
-use mathlib.Core.List.{List, _++_}
+use mathlib.Core.List.{List}
 use mathlib.Core.Path.{_≡_}
-use Prim.Native.Nat.{ℕ, _-_, _≤_}
-use lib.ListN.{length, replicate}
+use Prim.Native.Nat.{ℕ, _≤_}
+use lib.ListN.{length}
 use Rattle.partition.specs.Sizes.{axisSizes, Fit}
 use Rattle.partition.specs.Grid.{Grid, maxTileColumns, maxTiles}
 use Rattle.partition.specs.Checks.{Outcome, fine, refusedWith, firstBad}
 use Rattle.partition.specs.Partition.{tileGrid, gridChecks}
+use Rattle.tile_sizes.specs.Padded.{zeros, tableOf}
 use Rattle.tile_grid.specs.declared.TileGrid.{TileGrid}
 use Rattle.tile_grid.specs.declared.GridAnswer.{GridAnswer}
-
-unfoldable pub zeros : ℕ → List ℕ
-zeros n = replicate n 0
-
--- A table of n places: the sizes, then zeros.
-unfoldable pub tableOf : ℕ → List ℕ → List ℕ
-tableOf n ss = ss ++ zeros (n - length ss)
 
 -- 0 and the grid of these sizes.
 unfoldable pub gridOfSizes : List ℕ → List ℕ → GridAnswer

@@ -7,7 +7,8 @@ use lib.ListN.{length, getD}
 use Rattle.partition.specs.Checks.{Outcome, fine, refusedWith, firstBad, numberOf, Numbered, zero-fine}
 use Rattle.partition.specs.Entry.{tileRowHeight}
 use Rattle.partition.specs.Partition.{tileGrid, explicitChecks, axisChecks, gridChecks}
-use Rattle.tile_grid.specs.Answers.{zeros, tableOf, gridOfSizes, refusedGrid, gridFor, gridAnswer}
+use Rattle.tile_sizes.specs.Padded.{zeros, tableOf}
+use Rattle.tile_grid.specs.Answers.{gridOfSizes, refusedGrid, gridFor, gridAnswer}
 
 -- ---- tables
 

@@ -11,7 +11,7 @@ use Rattle.pps_syntax.specs.BlockRefusal.{declinedWith}
 use Rattle.tile_grid.specs.declared.PlanAnswer.{PlanAnswer}
 use Rattle.tile_grid.specs.declared.CoverAnswer.{CoverAnswer}
 use Rattle.tile_grid.specs.declared.CoverAnswer.the-variants.{Refused, NoPlan, Whole, Gap, Double}
-use Rattle.tile_grid.specs.Answers.{tableOf}
+use Rattle.tile_sizes.specs.Padded.{tableOf}
 
 abbrev pub maxSlices : ℕ
 maxSlices = 1000

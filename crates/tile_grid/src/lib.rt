@@ -1,17 +1,23 @@
-// The tile grid of a partitioned picture (H.266 6.5.1, 7.4.3.5).
+// The tile grid of a partitioned picture (H.266 6.5.1, 7.4.3.5), and the questions on grid, plan and cover over a record (docs/BEHAVIOUR.md).
 ghost use mathlib.Core.Path.{_≡_};
 ghost use Prim.Native.Nat.{_≤_, min};
 ghost use lib.Dec.{ltb};
 ghost use lib.ListN.{take};
 ghost use Rattle.partition.specs.Sizes.{axisSizes};
 ghost use Rattle.partition.specs.Grid.{maxTileColumns, maxTiles, maxSlicesMinus1};
+ghost use Rattle.partition.specs.Partition.{Layout};
 ghost use Rattle.pps_syntax.specs.BlockRefusal.{declinedWith};
 ghost use Rattle.pps_syntax.specs.SliceTables.{sliceTables};
 ghost use Rattle.question_tests.specs.Questions.{layoutAsked};
 ghost use Rattle.question_tests.specs.Steps.{gridFrom, slicedWithin};
 ghost use Rattle.question_tests.specs.Tables.{lent};
-ghost use Rattle.tile_grid.specs.GridQuestion.{gridAnswerOf};
+ghost use Rattle.slice_plan.specs.Plans.{placedIn, slicedProper};
+ghost use Rattle.tile_cover.specs.Answer.{coverAnswer};
 ghost use Rattle.tile_grid.specs.Answers.{FitsTable, gridOfSizes, refusedGrid, gridAnswer};
+ghost use Rattle.tile_grid.specs.Covered.{Coverable};
+ghost use Rattle.tile_grid.specs.GridQuestion.{gridAnswerOf};
+ghost use Rattle.tile_grid.specs.InGrid.{gridAsked};
+ghost use Rattle.tile_grid.specs.PlanQuestion.{planAnswerOf, coverNamed, RightAnswer};
 
 mod sizes;
 
@@ -26,6 +32,11 @@ use sizes::sizes_into;
 use slice_loop::CtbCount;
 use slice_loop::SliceIdx;
 use slice_loop::TileIdx;
+use slice_plan::PlacedIn;
+use slice_plan::none_placed;
+use slice_plan::placed_in;
+use tile_cover::Cover;
+use tile_cover::cover_of;
 
 // The tile grid, in CTBs; places not in use are 0.
 pub struct TileGrid {
@@ -105,6 +116,64 @@ fn at_most(n: u32, len: usize) -> usize
 {
     let m = n as usize;
     if m < len { m } else { len }
+}
+
+// A cover answer by its name here.
+fn answer_named(cover: Cover) -> CoverAnswer
+    ensures { λ r. ⌜ coverNamed r ≡ coverAnswer cover ⌝ }
+{
+    match cover {
+        Cover::NoPlan => CoverAnswer::NoPlan,
+        Cover::Whole => CoverAnswer::Whole,
+        Cover::Gap(t) => CoverAnswer::Gap(TileIdx(t)),
+        Cover::Double(t) => CoverAnswer::Double(TileIdx(t)),
+    }
+}
+
+// The plan of slices that are placed.
+fn plan_placed(laid: PlacedIn) -> PlanAnswer
+    ensures { λ r. ⌜ ((l : Layout) → laid ≡ placedIn l → r ≡ planAnswerOf l) ⌝ }
+{
+    let placed = laid.placed;
+    let left = placed.left;
+    let top = placed.top;
+    let width = placed.width;
+    let height = placed.height;
+    PlanAnswer {
+        refused: laid.refused,
+        num_slices: placed.num_slices,
+        left,
+        top,
+        width,
+        height,
+    }
+}
+
+// What slices cover that are placed.
+fn cover_placed(laid: PlacedIn) -> CoverAnswer
+    ensures { λ r. ⌜ ((l : Layout) → Coverable l → laid ≡ placedIn l → RightAnswer l r) ⌝ }
+{
+    if laid.refused != 0 {
+        return CoverAnswer::Refused(laid.refused);
+    }
+    if !laid.planned {
+        return CoverAnswer::NoPlan;
+    }
+    let groups = laid.placed;
+    let tile_x = groups.tile_x;
+    let tile_y = groups.tile_y;
+    let columns = groups.columns;
+    let rows = groups.rows;
+    let cover = cover_of(
+        laid.num_tile_columns,
+        laid.num_tile_rows,
+        &tile_x,
+        &tile_y,
+        &columns,
+        &rows,
+        groups.num_groups as usize,
+    );
+    answer_named(cover)
 }
 
 impl TileGrid {
@@ -213,6 +282,133 @@ impl TileGrid {
         )
     }
 
+    // The tests before the slices', and the grid; of no columns and no rows where the picture is unpartitioned.
+    fn tested(
+        pps: VvcPps,
+        subpic_ids: &[u32],
+        tile_column_widths: &[u32],
+        tile_row_heights: &[u32],
+        widths: &[u32],
+        heights: &[u32],
+        split_present: &[u8],
+        split_counts: &[u32],
+        delta_present: &[u8],
+        deltas: &[i32],
+        split_heights: &[u32],
+    ) -> GridAnswer
+        ensures { λ r. ⌜ r ≡ gridAnswerOf (gridAsked pps (lent (now («subpic_ids» .entry)) (now («tile_column_widths» .entry)) (now («tile_row_heights» .entry)) (sliceTables (now (widths .entry)) (now (heights .entry)) (now («split_present» .entry)) (now («split_counts» .entry)) (now («delta_present» .entry)) (now (deltas .entry)) (now («split_heights» .entry))))) ⌝ }
+    {
+        let number = record_refusal(
+            pps,
+            subpic_ids,
+            tile_column_widths,
+            tile_row_heights,
+            widths,
+            heights,
+            split_present,
+            split_counts,
+            delta_present,
+            deltas,
+            split_heights,
+        );
+        if number != 0 {
+            return refused_grid(number);
+        }
+        let p = pps.partition;
+        if p.present == 0 {
+            return refused_grid(0);
+        }
+        Self::of_tables(
+            pps.pps_pic_width_in_luma_samples,
+            pps.pps_pic_height_in_luma_samples,
+            p,
+            tile_column_widths,
+            tile_row_heights,
+        )
+    }
+
+    // What the slices of a partition place in this grid, or their refusal.
+    fn slices_placed(
+        self,
+        p: VvcPpsPartition,
+        widths: &[u32],
+        heights: &[u32],
+        split_present: &[u8],
+        split_counts: &[u32],
+        delta_present: &[u8],
+        deltas: &[i32],
+        split_heights: &[u32],
+    ) -> PlacedIn
+        requires { ⌜ (self .«num_tile_columns» ≤ 30) × (self .«num_tile_rows» ≤ 990) ⌝ }
+        ensures { λ r. ⌜ r ≡ placedIn (slicedProper (gridFrom (take (self .«num_tile_columns») (self .«column_widths»)) (take (self .«num_tile_rows») (self .«row_heights»))) p (sliceTables (now (widths .entry)) (now (heights .entry)) (now («split_present» .entry)) (now («split_counts» .entry)) (now («delta_present» .entry)) (now (deltas .entry)) (now («split_heights» .entry)))) ⌝ }
+    {
+        let columns = self.num_tile_columns as usize;
+        let rows = self.num_tile_rows as usize;
+        let column_widths = self.column_widths;
+        let row_heights = self.row_heights;
+        placed_in(
+            &column_widths[..columns],
+            &row_heights[..rows],
+            p,
+            widths,
+            heights,
+            split_present,
+            split_counts,
+            delta_present,
+            deltas,
+            split_heights,
+        )
+    }
+
+    // What the slices of a record place; or its refusal.
+    fn laid_out(
+        pps: VvcPps,
+        subpic_ids: &[u32],
+        tile_column_widths: &[u32],
+        tile_row_heights: &[u32],
+        widths: &[u32],
+        heights: &[u32],
+        split_present: &[u8],
+        split_counts: &[u32],
+        delta_present: &[u8],
+        deltas: &[i32],
+        split_heights: &[u32],
+    ) -> PlacedIn
+        ensures { λ r. ⌜ r ≡ placedIn (layoutAsked pps (lent (now («subpic_ids» .entry)) (now («tile_column_widths» .entry)) (now («tile_row_heights» .entry)) (sliceTables (now (widths .entry)) (now (heights .entry)) (now («split_present» .entry)) (now («split_counts» .entry)) (now («delta_present» .entry)) (now (deltas .entry)) (now («split_heights» .entry))))) ⌝ }
+    {
+        let answer = Self::tested(
+            pps,
+            subpic_ids,
+            tile_column_widths,
+            tile_row_heights,
+            widths,
+            heights,
+            split_present,
+            split_counts,
+            delta_present,
+            deltas,
+            split_heights,
+        );
+        let p = pps.partition;
+        if answer.refused != 0 {
+            return none_placed(answer.refused);
+        }
+        if p.present == 0 {
+            return none_placed(0);
+        }
+        let grid = answer.grid;
+        grid.slices_placed(
+            p,
+            widths,
+            heights,
+            split_present,
+            split_counts,
+            delta_present,
+            deltas,
+            split_heights,
+        )
+    }
+
     // The grid question: the tile grid of a record's picture, with no columns and no rows where it is unpartitioned; or a refusal. The whole partition is tested, its slices too.
     pub fn of_record(
         pps: VvcPps,
@@ -229,7 +425,7 @@ impl TileGrid {
     ) -> GridAnswer
         ensures { λ r. ⌜ r ≡ gridAnswerOf (layoutAsked pps (lent (now («subpic_ids» .entry)) (now («tile_column_widths» .entry)) (now («tile_row_heights» .entry)) (sliceTables (now (widths .entry)) (now (heights .entry)) (now («split_present» .entry)) (now («split_counts» .entry)) (now («delta_present» .entry)) (now (deltas .entry)) (now («split_heights» .entry))))) ⌝ }
     {
-        let number = record_refusal(
+        let answer = Self::tested(
             pps,
             subpic_ids,
             tile_column_widths,
@@ -243,20 +439,10 @@ impl TileGrid {
             split_heights,
         );
         let p = pps.partition;
-        if number != 0 {
-            return refused_grid(number);
+        if answer.refused != 0 {
+            return answer;
         }
         if p.present == 0 {
-            return refused_grid(0);
-        }
-        let answer = Self::of_tables(
-            pps.pps_pic_width_in_luma_samples,
-            pps.pps_pic_height_in_luma_samples,
-            p,
-            tile_column_widths,
-            tile_row_heights,
-        );
-        if answer.refused != 0 {
             return answer;
         }
         let grid = answer.grid;
@@ -274,5 +460,69 @@ impl TileGrid {
             return refused_grid(slices);
         }
         answer
+    }
+
+    // The plan question: each slice's left, top, width and height in CTBs; empty where no slices are coded; or a refusal.
+    pub fn plan(
+        pps: VvcPps,
+        subpic_ids: &[u32],
+        tile_column_widths: &[u32],
+        tile_row_heights: &[u32],
+        widths: &[u32],
+        heights: &[u32],
+        split_present: &[u8],
+        split_counts: &[u32],
+        delta_present: &[u8],
+        deltas: &[i32],
+        split_heights: &[u32],
+    ) -> PlanAnswer
+        ensures { λ r. ⌜ r ≡ planAnswerOf (layoutAsked pps (lent (now («subpic_ids» .entry)) (now («tile_column_widths» .entry)) (now («tile_row_heights» .entry)) (sliceTables (now (widths .entry)) (now (heights .entry)) (now («split_present» .entry)) (now («split_counts» .entry)) (now («delta_present» .entry)) (now (deltas .entry)) (now («split_heights» .entry))))) ⌝ }
+    {
+        let laid = Self::laid_out(
+            pps,
+            subpic_ids,
+            tile_column_widths,
+            tile_row_heights,
+            widths,
+            heights,
+            split_present,
+            split_counts,
+            delta_present,
+            deltas,
+            split_heights,
+        );
+        plan_placed(laid)
+    }
+
+    // The cover question: a refusal, no plan where no slices are coded, or what the slices cover. The tile that a gap or a double names is any that is as said.
+    pub fn cover(
+        pps: VvcPps,
+        subpic_ids: &[u32],
+        tile_column_widths: &[u32],
+        tile_row_heights: &[u32],
+        widths: &[u32],
+        heights: &[u32],
+        split_present: &[u8],
+        split_counts: &[u32],
+        delta_present: &[u8],
+        deltas: &[i32],
+        split_heights: &[u32],
+    ) -> CoverAnswer
+        ensures { λ r. ⌜ RightAnswer (layoutAsked pps (lent (now («subpic_ids» .entry)) (now («tile_column_widths» .entry)) (now («tile_row_heights» .entry)) (sliceTables (now (widths .entry)) (now (heights .entry)) (now («split_present» .entry)) (now («split_counts» .entry)) (now («delta_present» .entry)) (now (deltas .entry)) (now («split_heights» .entry))))) r ⌝ }
+    {
+        let laid = Self::laid_out(
+            pps,
+            subpic_ids,
+            tile_column_widths,
+            tile_row_heights,
+            widths,
+            heights,
+            split_present,
+            split_counts,
+            delta_present,
+            deltas,
+            split_heights,
+        );
+        cover_placed(laid)
     }
 }

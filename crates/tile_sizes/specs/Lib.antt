@@ -1,3 +1,4 @@
 pub mod Answers
 pub mod Laws
 pub mod Left
+pub mod Padded

@@ -1,5 +1,6 @@
 use borrow.Author.Needs.{needs}
-use Rattle.tile_grid.proofs.Fill.{filled-table, grid-made}
+use Rattle.tile_sizes.specs.Padded.{filled-table}
+use Rattle.tile_grid.proofs.Fill.{grid-made}
 use Rattle.tile_grid.proofs.accepted_grid.Statement.{statement}
 use Rattle.tile_grid.proofs.accepted_grid.Tie as tie
 

@@ -1,5 +1,6 @@
 use mathlib.Core.Path.{refl}
-use Rattle.tile_grid.specs.Answers.{zeros, noGrid, refusedGrid}
+use Rattle.tile_sizes.specs.Padded.{zeros}
+use Rattle.tile_grid.specs.Answers.{noGrid, refusedGrid}
 use Rattle.tile_grid.proofs.refused_grid.Statement.{statement}
 use Rattle.tile_grid.proofs.refused_grid.Tie as tie
 

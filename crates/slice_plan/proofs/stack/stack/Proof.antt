@@ -19,8 +19,8 @@ loop-holds c = stacking-begins _ _ _ _ _ _ _ (c .before .before .before .before 
 next-size-requires : tie.Need-next-size-requires Inv-loop μ-loop
 next-size-requires c κs = tt
 
-put-slice-requires : tie.Need-put-slice-requires Inv-loop μ-loop
-put-slice-requires c κs = tt
+put-rect-requires : tie.Need-put-rect-requires Inv-loop μ-loop
+put-rect-requires c κs = tt
 
 add-y : tie.Need-add-y Inv-loop μ-loop
 add-y c = let more : 1 ≤ c .before .before .before .before .before .before .before .before .before .before .before .before .before .before .before .loop .remaining = omega (arith, c .before .before .before .before .before .before .before .before .before .before .before .before .before .before .loop-test .taken) in let h = height-some (c .before .before .before .before .before .before .before .before .before .before .before .before .before .before .before .loop .inv) more _ (with-unit (c .before .before .before .before .before .before .before .before .before .before .before .before .before .before .before .before .before .before .before .before .before .before .args .heights-minus1 .now) (c .before .before .before .before .before .before .before .before .before .before .before .before .before .before .before .loop .j) _ _ (c .before .before .before .before .before .before .before .before .before .before .before .before .before .before .before .loop .remaining) _ (c .before .before .before .before .before .before .before .before .before .before .before .before .before .next-size .ensures) (c .before .before .before .before .before .before .before .before .before .before .before .before .before .before .before .before .unit-of .ensures)) in omega (arith, h .1, c .before .before .before .before .before .before .before .before .before .before .before .before .before .before .before .loop .inv .down, c .before .before .before .before .before .before .before .before .before .before .before .before .before .before .before .before .before .before .before .before .before .before .pre .2)
@@ -38,7 +38,7 @@ loop-less : tie.Need-loop-less Inv-loop μ-loop
 loop-less c = let more : 1 ≤ c .before .before .before .before .before .before .before .before .before .before .before .before .before .before .before .loop .remaining = omega (arith, c .before .before .before .before .before .before .before .before .before .before .before .before .before .before .loop-test .taken) in let h = height-some (c .before .before .before .before .before .before .before .before .before .before .before .before .before .before .before .loop .inv) more _ (with-unit (c .before .before .before .before .before .before .before .before .before .before .before .before .before .before .before .before .before .before .before .before .before .before .args .heights-minus1 .now) (c .before .before .before .before .before .before .before .before .before .before .before .before .before .before .before .loop .j) _ _ (c .before .before .before .before .before .before .before .before .before .before .before .before .before .before .before .loop .remaining) _ (c .before .before .before .before .before .before .before .before .before .before .before .before .before .next-size .ensures) (c .before .before .before .before .before .before .before .before .before .before .before .before .before .before .before .before .unit-of .ensures)) in omega (arith, h .0, h .1)
 
 loop-again : tie.Need-loop-again Inv-loop μ-loop
-loop-again c = let more : 1 ≤ c .before .before .before .before .before .before .before .before .before .before .before .before .before .before .before .loop .remaining = omega (arith, c .before .before .before .before .before .before .before .before .before .before .before .before .before .before .loop-test .taken) in stacking-goes-on (c .before .before .before .before .before .before .before .before .before .before .before .before .before .before .before .loop .inv) more _ (with-unit (c .before .before .before .before .before .before .before .before .before .before .before .before .before .before .before .before .before .before .before .before .before .before .args .heights-minus1 .now) (c .before .before .before .before .before .before .before .before .before .before .before .before .before .before .before .loop .j) _ _ (c .before .before .before .before .before .before .before .before .before .before .before .before .before .before .before .loop .remaining) _ (c .before .before .before .before .before .before .before .before .before .before .before .before .before .next-size .ensures) (c .before .before .before .before .before .before .before .before .before .before .before .before .before .before .before .before .unit-of .ensures)) _ (c .before .before .before .before .before .before .before .before .put-slice .ensures .0) (c .before .before .before .before .before .before .before .before .put-slice .ensures .1 .0) (c .before .before .before .before .before .before .before .before .put-slice .ensures .1 .1 .0) (c .before .before .before .before .before .before .before .before .put-slice .ensures .1 .1 .1)
+loop-again c = let more : 1 ≤ c .before .before .before .before .before .before .before .before .before .before .before .before .before .before .before .loop .remaining = omega (arith, c .before .before .before .before .before .before .before .before .before .before .before .before .before .before .loop-test .taken) in stacking-goes-on (c .before .before .before .before .before .before .before .before .before .before .before .before .before .before .before .loop .inv) more _ (with-unit (c .before .before .before .before .before .before .before .before .before .before .before .before .before .before .before .before .before .before .before .before .before .before .args .heights-minus1 .now) (c .before .before .before .before .before .before .before .before .before .before .before .before .before .before .before .loop .j) _ _ (c .before .before .before .before .before .before .before .before .before .before .before .before .before .before .before .loop .remaining) _ (c .before .before .before .before .before .before .before .before .before .before .before .before .before .next-size .ensures) (c .before .before .before .before .before .before .before .before .before .before .before .before .before .before .before .before .unit-of .ensures)) _ (c .before .before .before .before .before .before .before .before .put-rect .ensures .0) (c .before .before .before .before .before .before .before .before .put-rect .ensures .1 .0) (c .before .before .before .before .before .before .before .before .put-rect .ensures .1 .1 .0) (c .before .before .before .before .before .before .before .before .put-rect .ensures .1 .1 .1)
 
 same-length : tie.Need-same-length Inv-loop μ-loop
 same-length c = stacking-lengths (c .before .loop .inv) .0
@@ -64,7 +64,7 @@ stack-spec =
     unit-of-requires
     loop-holds
     next-size-requires
-    put-slice-requires
+    put-rect-requires
     add-y
     sub-remaining
     add-k

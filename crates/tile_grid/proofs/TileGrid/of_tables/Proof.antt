@@ -1,5 +1,5 @@
 use borrow.Author.Needs.{needs}
-use Rattle.tile_grid.specs.GridQuestion.{front-length, fronts-made}
+use Rattle.tile_grid.specs.InGrid.{front-length, fronts-made}
 use Rattle.tile_grid.proofs.TileGrid.of_tables.Statement.{statement}
 use Rattle.tile_grid.proofs.TileGrid.of_tables.Tie as tie
 

@@ -1,7 +1,7 @@
 use borrow.Author.Needs.{needs}
 use mathlib.Core.Path.{_≡_}
 use lib.ListN.{length}
-use Rattle.tile_grid.specs.GridQuestion.{part-length, within-length}
+use Rattle.tile_grid.specs.InGrid.{part-length, within-length}
 use Rattle.tile_grid.proofs.TileGrid.slices_refused.Statement.{statement}
 use Rattle.tile_grid.proofs.TileGrid.slices_refused.Tie as tie
 

@@ -1,6 +1,6 @@
 use borrow.Author.Needs.{needs}
-use Rattle.slice_plan.proofs.stack.put_slice.Statement.{statement}
-use Rattle.slice_plan.proofs.stack.put_slice.Tie as tie
+use Rattle.slice_plan.proofs.stack.put_rect.Statement.{statement}
+use Rattle.slice_plan.proofs.stack.put_rect.Tie as tie
 
 put-u32-requires : tie.Need-put-u32-requires
 put-u32-requires c κs = search needs
@@ -29,8 +29,8 @@ same-length-4 c = search needs
 returns : tie.Need-returns
 returns c = (c .before .before .before .before .before .before .before .before .before .before .before .before .before .before .put-u32 .ensures, (c .before .before .before .before .before .before .before .before .before .before .put-u322 .ensures, (c .before .before .before .before .before .before .put-u323 .ensures, c .before .before .put-u324 .ensures)))
 
-pub put-slice-spec : {M : Type 1} → statement M
-put-slice-spec =
+pub put-rect-spec : {M : Type 1} → statement M
+put-rect-spec =
     tie.close
     (tie.spec
     put-u32-requires

@@ -8,8 +8,8 @@ use Prim.Native.Nat.{_*_}
 use Rattle.question_tests.proofs.EntryLaws.{moved-by-delta, moved-by-default}
 use Rattle.slice_loop.specs.Answers.{nextByDelta}
 use Rattle.slice_loop.specs.declared.NextTile.{NextTile}
-use Rattle.question_tests.proofs.entry.next_tile.Statement.{statement}
-use Rattle.question_tests.proofs.entry.next_tile.Tie as tie
+use Rattle.question_tests.proofs.entries.next_tile.Statement.{statement}
+use Rattle.question_tests.proofs.entries.next_tile.Tie as tie
 
 apply-delta-requires : tie.Need-apply-delta-requires
 apply-delta-requires c κs = search needs
