@@ -1,0 +1,1 @@
+// Worked examples of the public functions, computed: one table, one theorem.
