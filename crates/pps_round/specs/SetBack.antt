@@ -173,7 +173,7 @@ partition-back false W H present [] z t m p h c = rw (eqb-true present 0 p)
 partition-back false W H present (b ∷ ps) z t m p h c = absurd (not-true c)
 
 -- ---- the set
-present-back : (present : ℕ) (ps : List PartitionBlock) → partitionRecord present ps .present ≡ present
+pub present-back : (present : ℕ) (ps : List PartitionBlock) → partitionRecord present ps .present ≡ present
 unfolding partitionRecord
 present-back present [] = refl
 present-back present (b ∷ ps) = refl

@@ -1,0 +1,3 @@
+pub mod RecordTests
+pub mod Asked
+pub mod UnitDemand

@@ -1,0 +1,1 @@
+// What reading leaves, asked about by the grid, plan and cover questions: theorems alone.
