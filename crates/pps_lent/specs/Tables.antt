@@ -6,7 +6,7 @@ use mathlib.Core.Bool.{Bool, true, false, not, _&&_, _||_}
 use native.Mathlib.Omega.{arith}
 use lib.Dec.{leb, eqb}
 use lib.IntN.{ℤ}
-use lib.ListN.{length, getD, List·getD-eq-default}
+use lib.ListN.{length, getD}
 use borrow.Author.Tests.{le-leb, lt-leb, ne-eqb}
 use Rattle.pps_record.specs.declared.VvcPps.{VvcPps}
 use Rattle.pps_record.specs.declared.VvcPpsPartition.{VvcPpsPartition}
@@ -68,10 +68,7 @@ left-end t n i left h s =
     let k : splitTotal t i (n - i) ≡ 0 = ap (splitTotal t i) z ∙ total-none t i in
     sym (le-leb (splitTotal t 0 n) 1000 (omega (arith, k, s .sum, s .within)))
 
--- ---- one place of a table, and one entry
-pub past-table : (t : List ℕ) (i : ℕ) → length t ≤ i → 0 ≡ getD t i 0
-past-table t i h = sym (List·getD-eq-default t 0 h)
-
+-- ---- one entry
 pub count-none : (sp sc : List ℕ) (i : ℕ) {p : ℕ} → p ≡ getD sp i 0 → p ≡ 0 → 0 ≡ splitCount (splitTables sp sc) i
 unfolding splitCount
 count-none sp sc i e z = let k : getD sp i 0 ≡ 0 = sym e ∙ z in rw k

@@ -3,7 +3,6 @@ ghost use mathlib.Core.Bool.{_&&_};
 ghost use mathlib.Core.List.{[]};
 ghost use mathlib.Core.Path.{_≡_};
 ghost use lib.Dec.{leb};
-ghost use lib.ListN.{getD};
 ghost use Rattle.pps_syntax.specs.FromRecord.{tablesLong, countsFit};
 ghost use Rattle.pps_syntax.specs.SliceTables.{sliceTables, splitCount, splitTotal};
 ghost use Rattle.pps_lent.specs.Tables.{lent, splitTables, splitLent, partitionFits};
@@ -14,6 +13,8 @@ use pps_record::lengths::SPLIT_HEIGHTS;
 use pps_record::lengths::SUBPIC_IDS;
 use pps_record::lengths::TILE_COLUMN_WIDTHS;
 use pps_record::lengths::TILE_ROW_HEIGHTS;
+use tables::places::at_u8;
+use tables::places::at_u32;
 
 // By their lengths, in the order in which the tables are lent.
 fn slices_long(
@@ -40,26 +41,6 @@ fn tables_long(subpic_ids: usize, columns: usize, rows: usize, slices: bool) -> 
 {
     (subpic_ids >= SUBPIC_IDS)
         & ((columns >= TILE_COLUMN_WIDTHS) & ((rows >= TILE_ROW_HEIGHTS) & slices))
-}
-
-fn at_u32(table: &[u32], i: u32) -> u32
-    ensures { λ r. ⌜ r ≡ getD (now (table .entry)) i 0 ⌝ }
-{
-    let k = i as usize;
-    if k < table.len() {
-        return table[k];
-    }
-    0
-}
-
-fn at_u8(table: &[u8], i: u32) -> u8
-    ensures { λ r. ⌜ r ≡ getD (now (table .entry)) i 0 ⌝ }
-{
-    let k = i as usize;
-    if k < table.len() {
-        return table[k];
-    }
-    0
 }
 
 // How many split heights entry `i` has: none where its split part is absent.

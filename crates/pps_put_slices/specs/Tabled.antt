@@ -2,34 +2,24 @@
 use Prim.Native.Nat.{ℕ, _+_, _-_, _≤_, min}
 use mathlib.Core.Path.{_≡_, refl, sym, ap, subst, _∙_}
 use mathlib.Core.List.{List}
-use mathlib.Core.Bool.{Bool, true, false, cond}
+use mathlib.Core.Bool.{Bool, true, false}
 use native.Mathlib.Omega.{arith}
 use lib.Dec.{leb}
 use lib.IntN.{ℤ, pos}
 use lib.ListN.{length, getD, take, drop, length-drop, drop-of-length-le}
 use lib.Seq.{take-all}
-use borrow.Author.Tests.{leb-true, leb-false, eq-eqb, ne-eqb}
+use borrow.Author.Tests.{leb-true, leb-false}
 use Rattle.bit_writer.specs.Writing.{Writing}
 use Rattle.partition.specs.Entry.{Position}
 use Rattle.partition.specs.Grid.{Grid}
-use Rattle.syntax.specs.Elements.{isSet}
 use Rattle.pps_syntax.specs.SliceSyntax.{RectSlice}
 use Rattle.pps_syntax.specs.SliceTables.{sliceTables, splitCount, sliceAt}
+use Rattle.pps_lent.specs.Tables.{splitTables}
 use Rattle.pps_put_slices.specs.EntryPut.{rectSliceOf, EntryPut}
 
-unfoldable pub countAt : List ℕ → List ℕ → ℕ → ℕ
-countAt present counts i = cond (isSet (getD present i 0)) (getD counts i 0) 0
-
-pub count-none : (present counts : List ℕ) (i p : ℕ) → p ≡ getD present i 0 → p ≡ 0 → 0 ≡ countAt present counts i
-unfolding countAt
-count-none present counts i p e z = rw (← e, eq-eqb p 0 z)
-
-pub count-some : (present counts : List ℕ) (i p : ℕ) {n : ℕ} → p ≡ getD present i 0 → (p ≡ 0 → ⊥) → n ≡ getD counts i 0 → n ≡ countAt present counts i
-unfolding countAt
-count-some present counts i p e z h = rw (← e, ne-eqb p 0 (λ q. z q)) h
-
-pub count-is : (ws hs sp sc dp sh : List ℕ) (ds : List ℤ) (i : ℕ) {n : ℕ} → n ≡ countAt sp sc i → n ≡ splitCount (sliceTables ws hs sp sc dp ds sh) i
-unfolding splitCount countAt
+-- what the two tables of split counts say is what all of them say
+pub count-is : (ws hs sp sc dp sh : List ℕ) (ds : List ℤ) (i : ℕ) {n : ℕ} → n ≡ splitCount (splitTables sp sc) i → n ≡ splitCount (sliceTables ws hs sp sc dp ds sh) i
+unfolding splitCount
 count-is ws hs sp sc dp sh ds i e = e
 
 -- ---- the part of the table that an entry's split heights take
@@ -63,8 +53,8 @@ module _ (t : List ℕ) (from count start end : ℕ) (s : start ≡ min from (le
       take-held (drop start t) count (end - start) size ∙ ap (take count) d
 
 pub slice-at : (ws hs sp sc dp sh : List ℕ) (ds : List ℤ) (i from : ℕ) {width height split there : ℕ} {delta : ℤ} {heights : List ℕ} → width ≡ getD ws i 0 → height ≡ getD hs i 0 → split ≡ getD sp i 0
-    → heights ≡ take (countAt sp sc i) (drop from sh) → there ≡ getD dp i 0 → delta ≡ getD ds i (pos 0) → rectSliceOf width height split heights there delta ≡ sliceAt (sliceTables ws hs sp sc dp ds sh) i from
-unfolding sliceAt splitCount countAt
+    → heights ≡ take (splitCount (splitTables sp sc) i) (drop from sh) → there ≡ getD dp i 0 → delta ≡ getD ds i (pos 0) → rectSliceOf width height split heights there delta ≡ sliceAt (sliceTables ws hs sp sc dp ds sh) i from
+unfolding sliceAt splitCount
 slice-at ws hs sp sc dp sh ds i from a b c d e f = rw (a, b, c, d, e, f)
 
 pub entry-tabled : {g : Grid} {deltas : Bool} {N : ℕ} {k : Position} {e f : RectSlice} {w v : Writing} {slice tile : ℕ} → e ≡ f → EntryPut g deltas N k e w v slice tile → EntryPut g deltas N k f w v slice tile

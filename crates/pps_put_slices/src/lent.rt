@@ -1,57 +1,21 @@
-// The entries in their tables: a place outside a table holds 0.
+// The entries in their tables.
 ghost use mathlib.Core.Path.{_≡_};
 ghost use Prim.Native.Nat.{ℕ, _*_, _≤_, min};
-ghost use lib.IntN.{pos};
-ghost use lib.ListN.{getD};
 ghost use Rattle.partition.specs.Grid.{Grid};
 ghost use Rattle.bit_writer.specs.Writing.{sinkOver};
 ghost use Rattle.pps_syntax.specs.SliceTables.{sliceTables, sliceAt};
 ghost use Rattle.pps_slices.specs.Entries.{LoopOver, position};
 ghost use Rattle.pps_put_slices.specs.EntryPut.{EntryPut};
-ghost use Rattle.pps_put_slices.specs.Tabled.{countAt};
 use super::entry::put_rect_slice;
 use super::parts::SlicePut;
 use bit_writer::Sink;
+use pps_lent::split_count;
 use slice_loop::SliceIdx;
 use slice_loop::SliceLoopCtx;
 use slice_loop::TileIdx;
-
-fn u32_at(table: &[u32], i: usize) -> u32
-    ensures { λ r. ⌜ r ≡ getD (now (table .entry)) i 0 ⌝ }
-{
-    if i < table.len() {
-        return table[i];
-    }
-    0
-}
-
-fn u8_at(table: &[u8], i: usize) -> u8
-    ensures { λ r. ⌜ r ≡ getD (now (table .entry)) i 0 ⌝ }
-{
-    if i < table.len() {
-        return table[i];
-    }
-    0
-}
-
-fn i32_at(table: &[i32], i: usize) -> i32
-    ensures { λ r. ⌜ r ≡ getD (now (table .entry)) i (pos 0) ⌝ }
-{
-    if i < table.len() {
-        return table[i];
-    }
-    0
-}
-
-// How many split heights entry i has.
-pub fn split_count(split_present: &[u8], split_counts: &[u32], i: usize) -> u32
-    ensures { λ r. ⌜ r ≡ countAt (now («split_present» .entry)) (now («split_counts» .entry)) i ⌝ }
-{
-    if u8_at(split_present, i) == 0 {
-        return 0;
-    }
-    u32_at(split_counts, i)
-}
+use tables::places::at_i32;
+use tables::places::at_u8;
+use tables::places::at_u32;
 
 fn at_most(n: usize, most: usize) -> usize
     ensures { λ r. ⌜ r ≡ min n most ⌝ }
@@ -70,7 +34,7 @@ pub fn put_slice_at(
     ctx: SliceLoopCtx,
     slice: SliceIdx,
     tile: TileIdx,
-    i: usize,
+    i: u32,
     from: usize,
     widths: &[u32],
     heights: &[u32],
@@ -83,12 +47,12 @@ pub fn put_slice_at(
     requires { ⌜ ctx .«num_tile_rows» * ctx .«num_tile_columns» ≤ 4294967295 ⌝ }
     ensures { λ r. ⌜ ((g : Grid) (preceding : ℕ) → LoopOver ctx (now («row_heights» .entry)) g → EntryPut g (ctx .«delta_present») (ctx .«num_slices_minus1» .0) (position (slice .0) (tile .0) preceding) (sliceAt (sliceTables (now (widths .entry)) (now (heights .entry)) (now («split_present» .entry)) (now («split_counts» .entry)) (now («delta_present» .entry)) (now (deltas .entry)) (now («split_heights» .entry))) i from) (sinkOver w (now (out .entry))) (sinkOver (r .next) (now (out .exit))) (r .slice .0) (r .tile .0)) ⌝ }
 {
-    let width = u32_at(widths, i);
-    let height = u32_at(heights, i);
-    let split = u8_at(split_present, i);
+    let width = at_u32(widths, i);
+    let height = at_u32(heights, i);
+    let split = at_u8(split_present, i);
     let count = split_count(split_present, split_counts, i);
-    let delta_there = u8_at(delta_present, i);
-    let delta = i32_at(deltas, i);
+    let delta_there = at_u8(delta_present, i);
+    let delta = at_i32(deltas, i);
     let start = at_most(from, split_heights.len());
     let end = at_most(start + count as usize, split_heights.len());
     put_rect_slice(

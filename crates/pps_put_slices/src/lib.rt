@@ -8,7 +8,7 @@ ghost use Rattle.pps_put_slices.specs.Held.{slicesSymbols};
 use bit_writer::Sink;
 use bit_writer::demand;
 use lent::put_slice_at;
-use lent::split_count;
+use pps_lent::split_count;
 use slice_loop::SliceIdx;
 use slice_loop::SliceLoopCtx;
 use slice_loop::TileIdx;
@@ -75,7 +75,7 @@ pub fn put_rect_slices(
             ctx,
             slice,
             tile,
-            i as usize,
+            i,
             from,
             widths,
             heights,
@@ -91,7 +91,7 @@ pub fn put_rect_slices(
         }
         slice = r.slice;
         tile = r.tile;
-        from += split_count(split_present, split_counts, i as usize) as usize;
+        from += split_count(split_present, split_counts, i) as usize;
         i += 1;
     }
     demand(cur, count <= i, 26)

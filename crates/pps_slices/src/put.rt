@@ -1,37 +1,10 @@
-// An entry into its place of six tables. A store outside a table does nothing.
+// An entry into its place of six tables.
 ghost use mathlib.Core.Path.{_≡_};
 ghost use lib.ListN.{set};
 use super::entry::RectSliceRead;
-
-pub fn put_u32(table: &mut [u32], i: u32, v: u32)
-    ensures { λ _. ⌜ now (table .exit) ≡ set (now (table .entry)) i v ⌝ }
-{
-    let k = i as usize;
-    if table.len() <= k {
-        return;
-    }
-    table[k] = v;
-}
-
-pub fn put_u8(table: &mut [u8], i: u32, v: u8)
-    ensures { λ _. ⌜ now (table .exit) ≡ set (now (table .entry)) i v ⌝ }
-{
-    let k = i as usize;
-    if table.len() <= k {
-        return;
-    }
-    table[k] = v;
-}
-
-pub fn put_i32(table: &mut [i32], i: u32, v: i32)
-    ensures { λ _. ⌜ now (table .exit) ≡ set (now (table .entry)) i v ⌝ }
-{
-    let k = i as usize;
-    if table.len() <= k {
-        return;
-    }
-    table[k] = v;
-}
+use tables::places::put_i32;
+use tables::places::put_u8;
+use tables::places::put_u32;
 
 pub fn put_slice(
     r: RectSliceRead,

@@ -1,13 +1,12 @@
 -- An entry in its tables, and its tests as the code makes them.
-use mathlib.Core.Path.{_≡_, refl, sym, ap, _∙_}
+use mathlib.Core.Path.{_≡_, refl, ap, _∙_}
 use mathlib.Core.List.{List, [], _∷_}
 use mathlib.Core.Bool.{Bool, true, false, cond, not, _&&_, Bool·beq}
 use Prim.Native.Nat.{ℕ, suc, _+_, _-_, _≤_}
 use native.Mathlib.Omega.{arith}
 use lib.Dec.{ltb, leb, eqb}
 use lib.IntN.{ℤ, pos}
-use lib.ListN.{length, getD, List·getD-eq-default}
-use borrow.Author.Tests.{eq-eqb, ne-eqb}
+use lib.ListN.{length, getD}
 use Rattle.partition.specs.Checks.{firstBad, numberOf}
 use Rattle.partition.specs.Entry.{asking, heightCoded, inheritedHeight, splitCoded, splitHeights, numSlicesInTile, lastSliceOf, someAtLeast, tileX, tileY, defaultAdvance, deltaRefused, deltaUncodable, sizeChecks, inheritedChecks, splitChecks, moveChecks}
 use Rattle.partition.specs.Sizes.{sum, explicitSizes, some-size}
@@ -19,25 +18,12 @@ use Rattle.slice_loop.specs.Laws.{held-outside, delta-number}
 use Rattle.tile_sizes.specs.Answers.{slicesInTile}
 use Rattle.tile_sizes.specs.Laws.{slices-number, slices-count}
 use Rattle.question_tests.specs.declared.entries.EntryAt.{EntryAt}
-use Rattle.question_tests.specs.Tables.{splitTables, entryAt, entryWith}
+use Rattle.question_tests.specs.Tables.{entryAt, entryWith}
+use Rattle.pps_lent.specs.Tables.{splitTables}
 use Rattle.question_tests.specs.Steps.{position, movedTo}
 use Rattle.question_tests.proofs.TestLaws.{test-made, no-test}
 
 -- ---- in the tables
-
-pub past-table : (l : List ℕ) (i : ℕ) → length l ≤ i → 0 ≡ getD l i 0
-past-table l i h = sym (List·getD-eq-default l 0 h)
-
-pub past-signed : (l : List ℤ) (i : ℕ) → length l ≤ i → pos 0 ≡ getD l i (pos 0)
-past-signed l i h = sym (List·getD-eq-default l (pos 0) h)
-
-pub count-none : (sp sc : List ℕ) (i v : ℕ) → v ≡ getD sp i 0 → v ≡ 0 → 0 ≡ splitCount (splitTables sp sc) i
-unfolding splitCount
-count-none sp sc i v e z = rw (← e, eq-eqb v 0 z)
-
-pub count-some : (sp sc : List ℕ) (i v c : ℕ) → v ≡ getD sp i 0 → (v ≡ 0 → ⊥) → c ≡ getD sc i 0 → c ≡ splitCount (splitTables sp sc) i
-unfolding splitCount
-count-some sp sc i v c e z q = rw (← e, ne-eqb v 0 z) q
 
 pub entry-made : (ws hs sp sc dp : List ℕ) (ds : List ℤ) (i w h p n m : ℕ) (d : ℤ) → w ≡ getD ws i 0 → h ≡ getD hs i 0 → p ≡ getD sp i 0 → n ≡ splitCount (splitTables sp sc) i → m ≡ getD dp i 0 → d ≡ getD ds i (pos 0)
     → record { width = w; height = h; «split_present» = isSet p; «split_count» = n; «delta_present» = isSet m; delta = d } ≡ entryAt (sliceTables ws hs sp sc dp ds []) i

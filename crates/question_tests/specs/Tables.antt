@@ -5,17 +5,13 @@ use lib.IntN.{pos}
 use lib.ListN.{getD}
 use Rattle.partition.specs.Entry.{Entry}
 use Rattle.pps_syntax.specs.FromRecord.{Lent}
-use Rattle.pps_syntax.specs.SliceTables.{SliceTables, sliceTables, splitCount}
+use Rattle.pps_syntax.specs.SliceTables.{SliceTables, splitCount}
 use Rattle.syntax.specs.Elements.{isSet}
 use Rattle.question_tests.specs.declared.entries.EntryAt.{EntryAt}
 
 -- What is lent to a question: the triples of the chroma offsets are none of it.
 abbrev pub lent : List ℕ → List ℕ → List ℕ → SliceTables → Lent
 lent ids ws hs t = record { subpicIds = ids; columnWidths = ws; rowHeights = hs; slices = t; triples = [] }
-
--- The two tables that say how many explicit slice heights an entry has.
-abbrev pub splitTables : List ℕ → List ℕ → SliceTables
-splitTables sp sc = sliceTables [] [] sp sc [] [] []
 
 -- Entry i, but for its explicit slice heights.
 unfoldable pub entryAt : SliceTables → ℕ → EntryAt

@@ -2,13 +2,15 @@
 ghost use mathlib.Core.Path.{_≡_};
 ghost use mathlib.Core.List.{[]};
 ghost use Prim.Native.Nat.{_+_, _*_, min};
-ghost use lib.IntN.{pos};
-ghost use lib.ListN.{getD};
-ghost use Rattle.pps_syntax.specs.SliceTables.{sliceTables, splitCount};
+ghost use Rattle.pps_syntax.specs.SliceTables.{sliceTables};
 ghost use Rattle.question_tests.specs.Steps.{movedTo};
-ghost use Rattle.question_tests.specs.Tables.{splitTables, entryAt};
+ghost use Rattle.question_tests.specs.Tables.{entryAt};
+use pps_lent::split_count;
 use slice_loop::SliceLoopCtx;
 use slice_loop::TileIdx;
+use tables::places::at_i32;
+use tables::places::at_u8;
+use tables::places::at_u32;
 
 // An entry, but for its explicit slice heights; so many of them are in their table.
 pub struct EntryAt {
@@ -18,46 +20,6 @@ pub struct EntryAt {
     pub split_count: u32,
     pub delta_present: bool,
     pub delta: i32,
-}
-
-fn at_u32(table: &[u32], i: u32) -> u32
-    ensures { λ r. ⌜ r ≡ getD (now (table .entry)) i 0 ⌝ }
-{
-    let k = i as usize;
-    if k < table.len() {
-        return table[k];
-    }
-    0
-}
-
-fn at_u8(table: &[u8], i: u32) -> u8
-    ensures { λ r. ⌜ r ≡ getD (now (table .entry)) i 0 ⌝ }
-{
-    let k = i as usize;
-    if k < table.len() {
-        return table[k];
-    }
-    0
-}
-
-fn at_i32(table: &[i32], i: u32) -> i32
-    ensures { λ r. ⌜ r ≡ getD (now (table .entry)) i (pos 0) ⌝ }
-{
-    let k = i as usize;
-    if k < table.len() {
-        return table[k];
-    }
-    0
-}
-
-// How many explicit slice heights entry i has: none where its split part is absent.
-pub fn split_count(split_present: &[u8], split_counts: &[u32], i: u32) -> u32
-    ensures { λ r. ⌜ r ≡ splitCount (splitTables (now («split_present» .entry)) (now («split_counts» .entry))) i ⌝ }
-{
-    if at_u8(split_present, i) == 0 {
-        return 0;
-    }
-    at_u32(split_counts, i)
 }
 
 pub fn entry_at(

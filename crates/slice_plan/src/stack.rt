@@ -6,17 +6,8 @@ ghost use Rattle.partition.specs.Entry.{splitHeights};
 ghost use Rattle.partition.specs.Groups.{stacked};
 ghost use Rattle.partition.specs.Sizes.{Fit};
 ghost use Rattle.slice_plan.specs.Stacking.{planTables, putPlan, stackUnit};
+use tables::places::put_u32;
 use tile_sizes::next_size;
-
-fn put_u32(table: &mut [u32], i: u32, v: u32)
-    ensures { λ _. ⌜ now (table .exit) ≡ set (now (table .entry)) i v ⌝ }
-{
-    let k = i as usize;
-    if table.len() <= k {
-        return;
-    }
-    table[k] = v;
-}
 
 // A block's left, top, width and height, each into its table.
 pub fn put_rect(

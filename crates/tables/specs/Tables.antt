@@ -5,7 +5,7 @@ use Prim.Native.Nat.{ℕ, zero, suc, _+_, _-_, _<_, _≤_}
 use native.Mathlib.Nat.{zero-add, add-zero, add-suc, suc-add, sub-zero, suc-sub-suc, zero-sub, not-suc-le-zero, le-of-suc-le-suc}
 use native.Mathlib.Numerals.{add-one}
 use native.Mathlib.Omega.{arith}
-use lib.ListN.{length, set, drop, replicate, getD, length-append, length-replicate, length-drop, drop-of-length-le}
+use lib.ListN.{length, set, drop, replicate, getD, length-append, length-replicate, length-drop, drop-of-length-le, List·getD-eq-default}
 use lib.Seq.{sets, sets-eq, set-at, drop-cons, append-snoc}
 
 module _ {A : Type 0} where
@@ -46,6 +46,10 @@ module _ {A : Type 0} where
   blank-whole n v t e =
       let h : length t ≤ n = omega arith in
       rw (drop-of-length-le t h) (append-nil (blank n v) ∙ ap (λ (k : ℕ). blank k v) e)
+
+  -- ---- a place outside
+  pub past-table : (t : List A) (v : A) (i : ℕ) → length t ≤ i → v ≡ getD t i v
+  past-table t v i h = sym (List·getD-eq-default t v h)
 
   -- ---- any front
   -- a store just behind a front makes the front one longer

@@ -4,6 +4,8 @@ ghost use lib.IntN.{pos};
 ghost use lib.ListN.{length};
 ghost use Rattle.tables.specs.Tables.{blank};
 
+pub mod places;
+
 // Every place of the table becomes 0.
 pub fn clear_u8(table: &mut [u8])
     ensures { λ _. ⌜ now (table .exit) ≡ blank (length (now (table .entry))) 0 ⌝ }

@@ -44,9 +44,6 @@ same-length c = c .before .before .before .before .before .loop .inv .0
 returns-2 : tie.Need-returns-2 Inv-loop μ-loop
 returns-2 c = slices-made _ _ _ _ _ _ _ (c .before .before .before .before .before .before .before .before .before .within-limits .ensures) (c .before .before .before .before .before .before .before .before .demand .ensures _) (held-short (c .before .before .before .before .before .loop .inv .1) (c .before .before .if2 .taken) (c .before .if3 .taken) (c .demand2 .ensures _))
 
-cast-put-slice-at : tie.Need-cast-put-slice-at Inv-loop μ-loop
-cast-put-slice-at c = omega arith
-
 put-slice-at-requires : tie.Need-put-slice-at-requires Inv-loop μ-loop
 put-slice-at-requires c κs = let l = limited _ _ _ (c .before .before .before .before .before .before .before .before .before .within-limits .ensures) (c .before .before .before .before .before .before .before .before .demand .ensures []) (c .before .before .before .before .before .before .if1 .left) .tilesFit in omega (arith, l)
 
@@ -56,9 +53,6 @@ same-length-2 c = c .before .before .before .before .before .put-slice-at .kept 
 returns-3 : tie.Need-returns-3 Inv-loop μ-loop
 returns-3 c = let E = c .before .before .before .before .before .put-slice-at .ensures (gridOf (c .before .before .before .before .before .before .before .before .before .before .before .before .before .before .before .before .before .before .before .before .before .before .before .before .before .args .column-widths .now) (c .before .before .before .before .before .before .before .before .before .before .before .before .before .before .before .before .before .before .before .before .before .before .before .before .before .args .row-heights .now)) (c .before .before .before .before .before .before .before .before .before .before .before .loop .inv .1 .at .precedingHeightMinus1) (record { columnsAre = refl; rowsAre = refl; heightsAre = refl }) in
     slices-made _ _ _ _ _ _ _ (c .before .before .before .before .before .before .before .before .before .before .before .before .before .before .before .within-limits .ensures) (c .before .before .before .before .before .before .before .before .before .before .before .before .before .before .demand .ensures _) (held-stops (c .before .before .before .before .before .before .before .before .before .before .before .loop .inv .1) (c .before .before .before .before .before .before .before .before .if2 .taken) (c .before .before .before .before .before .before .before .if3 .left) E (c .if4 .taken))
-
-cast-split-count : tie.Need-cast-split-count Inv-loop μ-loop
-cast-split-count c = omega arith
 
 split-count-requires : tie.Need-split-count-requires Inv-loop μ-loop
 split-count-requires c κs = tt
@@ -103,11 +97,9 @@ put-rect-slices-spec =
     demand-requires-2
     same-length
     returns-2
-    cast-put-slice-at
     put-slice-at-requires
     same-length-2
     returns-3
-    cast-split-count
     split-count-requires
     cast-from
     add-from

@@ -16,23 +16,23 @@ use borrow.Author.Needs.{needs}
 use Rattle.pps_put_slices.proofs.lent.put_slice_at.Statement.{statement}
 use Rattle.pps_put_slices.proofs.lent.put_slice_at.Tie as tie
 
-u32-at-requires : tie.Need-u32-at-requires
-u32-at-requires c κs = tt
+at-u32-requires : tie.Need-at-u32-requires
+at-u32-requires c κs = tt
 
-u32-at-requires-2 : tie.Need-u32-at-requires-2
-u32-at-requires-2 c κs = tt
+at-u32-requires-2 : tie.Need-at-u32-requires-2
+at-u32-requires-2 c κs = tt
 
-u8-at-requires : tie.Need-u8-at-requires
-u8-at-requires c κs = tt
+at-u8-requires : tie.Need-at-u8-requires
+at-u8-requires c κs = tt
 
 split-count-requires : tie.Need-split-count-requires
 split-count-requires c κs = tt
 
-u8-at-requires-2 : tie.Need-u8-at-requires-2
-u8-at-requires-2 c κs = tt
+at-u8-requires-2 : tie.Need-at-u8-requires-2
+at-u8-requires-2 c κs = tt
 
-i32-at-requires : tie.Need-i32-at-requires
-i32-at-requires c κs = tt
+at-i32-requires : tie.Need-at-i32-requires
+at-i32-requires c κs = tt
 
 at-most-requires : tie.Need-at-most-requires
 at-most-requires c κs = tt
@@ -66,25 +66,25 @@ same-length c = search needs
 
 returns : tie.Need-returns
 returns c = λ g preceding o.
-    let fits : SFits w32 (c .before .before .before .before .before .before .before .i32-at .result) = search needs in
+    let fits : SFits w32 (c .before .before .before .before .before .before .before .at-i32 .result) = search needs in
     let a = c .before .before .before .before .before .before .before .before .before .before .before .before .before .before .before .before .before .before .before .before .before .args in
     let t : List ℕ = now (a .split-heights) in
     entry-tabled
-    (slice-at (now (a .widths)) (now (a .heights)) (now (a .split-present)) (now (a .split-counts)) (now (a .delta-present)) t (now (a .deltas)) (a .i) (a .from) (c .before .before .before .before .before .before .before .before .before .before .before .before .u32-at .ensures) (c .before .before .before .before .before .before .before .before .before .before .before .u32-at2 .ensures) (c .before .before .before .before .before .before .before .before .before .before .u8-at .ensures)
+    (slice-at (now (a .widths)) (now (a .heights)) (now (a .split-present)) (now (a .split-counts)) (now (a .delta-present)) t (now (a .deltas)) (a .i) (a .from) (c .before .before .before .before .before .before .before .before .before .before .before .before .at-u32 .ensures) (c .before .before .before .before .before .before .before .before .before .before .before .at-u322 .ensures) (c .before .before .before .before .before .before .before .before .before .before .at-u8 .ensures)
     (part-is t (a .from) (c .before .before .before .before .before .before .before .before .before .split-count .result) (c .before .before .before .before .before .before .at-most .result) (c .before .before .before .before .before .at-most2 .result) (c .before .before .before .before .before .before .at-most .ensures) (c .before .before .before .before .before .at-most2 .ensures) ∙ ap (λ (n : ℕ). take n (drop (a .from) t)) (c .before .before .before .before .before .before .before .before .before .split-count .ensures))
-    (c .before .before .before .before .before .before .before .before .u8-at2 .ensures) (toZ-ofZ fits ∙ c .before .before .before .before .before .before .before .i32-at .ensures))
+    (c .before .before .before .before .before .before .before .before .at-u82 .ensures) (toZ-ofZ fits ∙ c .before .before .before .before .before .before .before .at-i32 .ensures))
     (c .before .before .put-rect-slice .ensures g preceding o)
 
 pub put-slice-at-spec : {M : Type 1} → statement M
 put-slice-at-spec =
     tie.close
     (tie.spec
-    u32-at-requires
-    u32-at-requires-2
-    u8-at-requires
+    at-u32-requires
+    at-u32-requires-2
+    at-u8-requires
     split-count-requires
-    u8-at-requires-2
-    i32-at-requires
+    at-u8-requires-2
+    at-i32-requires
     at-most-requires
     cast-at-most
     add-at-most

@@ -1,14 +1,14 @@
 use mathlib.Core.Path.{sym}
 use lib.Seq.{set-out}
 use borrow.Author.Needs.{needs}
-use Rattle.pps_slices.proofs.put.put_u8.Statement.{statement}
-use Rattle.pps_slices.proofs.put.put_u8.Tie as tie
+use Rattle.tables.proofs.places.put_u8.Statement.{statement}
+use Rattle.tables.proofs.places.put_u8.Tie as tie
 
 returns : tie.Need-returns
 returns c = sym (set-out _ _ _ (c .if1 .taken))
 
-slice-write-table : tie.Need-slice-write-table
-slice-write-table c = search needs
+slice-write-flags : tie.Need-slice-write-flags
+slice-write-flags c = search needs
 
 same-length : tie.Need-same-length
 same-length c = search needs
@@ -17,4 +17,4 @@ returns-2 : tie.Need-returns-2
 returns-2 c = search needs
 
 pub put-u8-spec : {M : Type 1} → statement M
-put-u8-spec = tie.close (tie.spec returns slice-write-table same-length returns-2)
+put-u8-spec = tie.close (tie.spec returns slice-write-flags same-length returns-2)

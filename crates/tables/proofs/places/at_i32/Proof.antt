@@ -1,7 +1,7 @@
 use borrow.Author.Needs.{needs}
-use Rattle.question_tests.proofs.EntryLaws.{past-signed}
-use Rattle.question_tests.proofs.entries.at_i32.Statement.{statement}
-use Rattle.question_tests.proofs.entries.at_i32.Tie as tie
+use Rattle.tables.specs.Tables.{past-table}
+use Rattle.tables.proofs.places.at_i32.Statement.{statement}
+use Rattle.tables.proofs.places.at_i32.Tie as tie
 
 mul-result : tie.Need-mul-result
 mul-result c = search needs
@@ -13,7 +13,7 @@ returns : tie.Need-returns
 returns c = search needs
 
 returns-2 : tie.Need-returns-2
-returns-2 c = past-signed (c .before .args .table .now) (c .before .args .i) (c .if1 .left)
+returns-2 c = past-table (c .before .args .deltas .now) _ (c .before .args .i) (c .if1 .left)
 
 pub at-i32-spec : {M : Type 1} → statement M
 at-i32-spec = tie.close (tie.spec mul-result shared-slice-copy-out-result returns returns-2)

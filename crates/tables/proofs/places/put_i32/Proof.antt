@@ -1,8 +1,8 @@
 use mathlib.Core.Path.{sym}
 use lib.Seq.{set-out}
 use borrow.Author.Needs.{needs}
-use Rattle.pps_slices.proofs.put.put_i32.Statement.{statement}
-use Rattle.pps_slices.proofs.put.put_i32.Tie as tie
+use Rattle.tables.proofs.places.put_i32.Statement.{statement}
+use Rattle.tables.proofs.places.put_i32.Tie as tie
 
 returns : tie.Need-returns
 returns c = sym (set-out _ _ _ (c .if1 .taken))
