@@ -11,7 +11,9 @@ fn tell(i: usize) {
         os::fail(&path[..length]);
         return;
     }
-    pps_report::print_info(fd);
+    let mut nal = io::large_buffer();
+    let count = io::read_full(fd, &mut nal);
+    pps_report::print_info(&nal[..count]);
     libc::close(fd);
 }
 

