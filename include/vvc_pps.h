@@ -220,6 +220,43 @@ typedef struct VvcPpsRead {
     VvcPps pps;
 } VvcPpsRead;
 
+/* The tile grid of a picture, in CTBs, with no columns and no rows where it is unpartitioned. Places not in use are 0, and all of them
+ * beside a refusal. */
+typedef struct VvcGridAnswer {
+    uint8_t refused;
+    uint32_t num_tile_columns;
+    uint32_t num_tile_rows;
+    uint32_t column_widths[30];
+    uint32_t row_heights[990];
+} VvcGridAnswer;
+
+/* Where each slice of a picture lies, in CTBs, by slice index; without slices where none are coded. Places not in use are 0, and all of
+ * them beside a refusal. */
+typedef struct VvcPlanAnswer {
+    uint8_t refused;
+    uint32_t num_slices;
+    uint32_t left[1000];
+    uint32_t top[1000];
+    uint32_t width[1000];
+    uint32_t height[1000];
+} VvcPlanAnswer;
+
+/* What the slices of a picture cover. Gap goes before double. */
+enum {
+    VVC_COVER_NONE = 0, /* no slices are coded: unpartitioned, not rectangular, or a single slice per subpicture */
+    VVC_COVER_WHOLE = 1, /* every block lies in exactly one slice */
+    VVC_COVER_GAP = 2, /* `tile` lies in no slice */
+    VVC_COVER_DOUBLE = 3, /* the blocks of `tile` lie in several slices */
+    VVC_COVER_REFUSED = 4, /* with the number in `refused` */
+};
+
+/* `refused` and `tile` are 0 where the kind does not use them. */
+typedef struct VvcCoverAnswer {
+    uint8_t kind;
+    uint8_t refused;
+    uint32_t tile;
+} VvcCoverAnswer;
+
 /* Takes the escape bytes out of a payload (H.266 7.4.2.1). Refusals: 3 for more than 65,535 bytes, 4 where `out` is shorter than the
  * payload. Only the bytes reported are changed. */
 VvcByteCount vvc_ebsp_to_rbsp(const uint8_t *ebsp, size_t ebsp_len, uint8_t *out, size_t out_len);
@@ -270,6 +307,33 @@ VvcByteCount vvc_write_pps_nal(VvcPps pps, const uint32_t *subpic_ids, size_t su
     size_t split_present_len, const uint32_t *split_counts, size_t split_counts_len, const uint8_t *delta_present,
     size_t delta_present_len, const int32_t *deltas, size_t deltas_len, const uint32_t *split_heights, size_t split_heights_len,
     const int32_t triples[6][3], const uint8_t *extension, size_t extension_len, uint8_t *out, size_t out_len);
+
+/* The questions on a record with the tables that reading fills (H.266 6.5.1). Refusals: 5 as in writing, the extension bits aside; 7; 26
+ * for the no-partition flag or a flag of a present partition over 1, and for a partition that is there or missing against that flag; then
+ * 9 to 19, 25 and 26 as writing has them in the partition, with 26 also for a delta flag where pps_num_slices_in_pic_minus1 is under 2,
+ * and for an uncoded slice height that isn't the one that reading infers. What lies outside the partition is not looked at. Nothing lent
+ * changes. */
+
+/* The sizes of the tile columns and rows. */
+VvcGridAnswer vvc_tile_grid(VvcPps pps, const uint32_t *subpic_ids, size_t subpic_ids_len, const uint32_t *tile_column_widths,
+    size_t tile_column_widths_len, const uint32_t *tile_row_heights, size_t tile_row_heights_len, const uint32_t *slice_widths,
+    size_t slice_widths_len, const uint32_t *slice_heights, size_t slice_heights_len, const uint8_t *split_present,
+    size_t split_present_len, const uint32_t *split_counts, size_t split_counts_len, const uint8_t *delta_present,
+    size_t delta_present_len, const int32_t *deltas, size_t deltas_len, const uint32_t *split_heights, size_t split_heights_len);
+
+/* Each slice's left, top, width and height. */
+VvcPlanAnswer vvc_slice_plan(VvcPps pps, const uint32_t *subpic_ids, size_t subpic_ids_len, const uint32_t *tile_column_widths,
+    size_t tile_column_widths_len, const uint32_t *tile_row_heights, size_t tile_row_heights_len, const uint32_t *slice_widths,
+    size_t slice_widths_len, const uint32_t *slice_heights, size_t slice_heights_len, const uint8_t *split_present,
+    size_t split_present_len, const uint32_t *split_counts, size_t split_counts_len, const uint8_t *delta_present,
+    size_t delta_present_len, const int32_t *deltas, size_t deltas_len, const uint32_t *split_heights, size_t split_heights_len);
+
+/* Whether the slices cover each block once. The tile of a gap or a double is any that is as said. */
+VvcCoverAnswer vvc_cover(VvcPps pps, const uint32_t *subpic_ids, size_t subpic_ids_len, const uint32_t *tile_column_widths,
+    size_t tile_column_widths_len, const uint32_t *tile_row_heights, size_t tile_row_heights_len, const uint32_t *slice_widths,
+    size_t slice_widths_len, const uint32_t *slice_heights, size_t slice_heights_len, const uint8_t *split_present,
+    size_t split_present_len, const uint32_t *split_counts, size_t split_counts_len, const uint8_t *delta_present,
+    size_t delta_present_len, const int32_t *deltas, size_t deltas_len, const uint32_t *split_heights, size_t split_heights_len);
 
 /* The number of bits of the ue(v) code of `v` (H.266 9.2). Refusal: 25 for 4294967295. */
 VvcUeSize vvc_ue_size(uint32_t v);

@@ -18,6 +18,7 @@ ghost use Rattle.bit_writer.specs.Answers.{answerOf};
 ghost use Rattle.vvc_pps.specs.Answers.{byteCount, nalHeader, ueSize};
 
 mod no_pps;
+pub mod questions;
 pub mod reading;
 pub mod writing;
 

@@ -1,6 +1,7 @@
 //! What the calls cost. Times are the best of several rounds, in nanoseconds per call, read or
 //! write.
 
+mod questions;
 mod reading;
 mod sets;
 mod writing;
@@ -27,6 +28,7 @@ pub fn run() {
     writing::run(&mut random);
     reading::run();
     sets::run();
+    questions::run();
 }
 
 /// The time of a call in nanoseconds. A call of a second and more is made once.

@@ -6,6 +6,7 @@ mod bits;
 mod escape;
 mod header;
 mod ours;
+mod questions;
 mod random;
 mod reading;
 mod sets;
@@ -25,6 +26,7 @@ const AREAS: &[Area] = &[
     writing::AREA,
     reading::AREA,
     sets::AREA,
+    questions::AREA,
 ];
 
 fn main() -> ExitCode {

@@ -1,13 +1,17 @@
 //! The library's C interface (include/vvc_pps.h), with safe functions over it.
 
+mod asked;
+mod given;
 mod pps;
 mod written;
 
+pub use asked::{CoverAnswer, GridAnswer, PlanAnswer, cover, slice_plan, tile_grid};
+pub use given::Given;
 pub use pps::{
     ChromaToolOffsets, ConfWinOffsets, Deblocking, Partition, Pps, PpsRead, ScalingWinOffsets,
     SubpicIdMapping, Tables, parse_pps,
 };
-pub use written::{Given, write_pps, write_pps_nal};
+pub use written::{write_pps, write_pps_nal};
 
 #[repr(C)]
 #[derive(Clone, Debug, PartialEq)]

@@ -16,12 +16,11 @@ mod units;
 
 use crate::ours::{Pps, PpsRead};
 use crate::tally::{Area, Hex, Tally};
-use lent::Runs;
 use original::BitstreamError;
 use original::h266::pps::{VvcPps, parse_pps};
 
 pub use known::SMALLEST;
-pub use lent::{Form, LEAST, Lengths, Lent};
+pub use lent::{Form, LEAST, Lengths, Lent, Runs};
 pub use units::unit;
 
 pub const AREA: Area = Area {

@@ -1,13 +1,14 @@
 //! Writing a picture parameter set: records, right and wrong, as an RBSP and as a NAL unit, into
 //! outputs from empty to ample.
 
-mod cases;
-mod change;
+pub mod cases;
+pub mod change;
 mod fields;
 mod known;
+pub mod laid;
 mod reach;
 mod record;
-mod second;
+pub mod second;
 
 use crate::escape::{GUARD, pattern};
 use crate::ours::ByteCount;

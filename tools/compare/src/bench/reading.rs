@@ -2,9 +2,9 @@
 
 use super::{row, time};
 use crate::reading::{Lengths, Lent, SMALLEST};
+use crate::sets::laid::{self, partitioned, slice, then};
 use original::h266::pps::{
-    VvcPps, VvcPpsChromaToolOffsets, VvcPpsDeblocking, VvcPpsPartition, VvcPpsRectSlice, parse_pps,
-    write_pps_nal,
+    VvcPps, VvcPpsChromaToolOffsets, VvcPpsDeblocking, parse_pps, write_pps_nal,
 };
 use std::hint::black_box;
 
@@ -37,7 +37,7 @@ pub fn records() -> [(&'static str, VvcPps); 8] {
         ),
         (
             "30 × 33 tiles, 990 slices",
-            partitioned(&[0; 30], &[0; 33], 0, 989, vec![slice(0); 989]),
+            partitioned(&[0; 30], &[0; 33], 0, 989, vec![slice(0, 0); 989]),
         ),
         ("1,000 slices with deltas", deltas()),
         ("1,000 slices of a tile", split()),
@@ -46,63 +46,21 @@ pub fn records() -> [(&'static str, VvcPps); 8] {
     ]
 }
 
-fn slice(width_minus1: u32) -> VvcPpsRectSlice {
-    VvcPpsRectSlice {
-        pps_slice_width_in_tiles_minus1: width_minus1,
-        ..VvcPpsRectSlice::default()
-    }
-}
-
-/// With CTUs of 128 samples, and a picture that is as large as the sizes.
-fn partitioned(
-    columns_minus1: &[u32],
-    rows_minus1: &[u32],
-    single_slice: u8,
-    last_slice: u32,
-    rect_slices: Vec<VvcPpsRectSlice>,
-) -> VvcPps {
-    let samples = |sizes: &[u32]| sizes.iter().map(|size| (size + 1) * 128).sum();
-    VvcPps {
-        pps_pic_width_in_luma_samples: samples(columns_minus1),
-        pps_pic_height_in_luma_samples: samples(rows_minus1),
-        partition: Some(VvcPpsPartition {
-            pps_log2_ctu_size_minus5: 2,
-            pps_tile_column_widths_minus1: columns_minus1.to_vec(),
-            pps_tile_row_heights_minus1: rows_minus1.to_vec(),
-            pps_rect_slice_flag: 1,
-            pps_single_slice_per_subpic_flag: single_slice,
-            pps_num_slices_in_pic_minus1: last_slice,
-            rect_slices,
-            ..VvcPpsPartition::default()
-        }),
-        ..VvcPps::default()
-    }
-}
-
 fn typical() -> VvcPps {
     VvcPps {
         chroma_tool_offsets: Some(VvcPpsChromaToolOffsets::default()),
         deblocking: Some(VvcPpsDeblocking::default()),
-        ..partitioned(&[3, 3, 3, 2], &[2, 2, 2], 0, 5, vec![slice(1); 5])
+        ..partitioned(&[3, 3, 3, 2], &[2, 2, 2], 0, 5, vec![slice(1, 0); 5])
     }
 }
 
 /// From the first of two tiles to the second and back.
 fn deltas() -> VvcPps {
-    let mut rect_slices = vec![slice(0); 999];
-    for (i, entry) in rect_slices.iter_mut().enumerate() {
-        entry.pps_tile_idx_delta_val = Some(if i % 2 == 0 { 1 } else { -1 });
-    }
-    let mut pps = partitioned(&[0, 0], &[0], 0, 999, rect_slices);
-    if let Some(partition) = &mut pps.partition {
-        partition.pps_tile_idx_delta_present_flag = 1;
-    }
-    pps
+    let entry = |i| then(if i % 2 == 0 { 1 } else { -1 }, slice(0, 0));
+    partitioned(&[0, 0], &[0], 0, 999, (0..999).map(entry).collect())
 }
 
 fn split() -> VvcPps {
-    let mut entry = slice(0);
     let heights_minus1 = [&[0; 999][..], &[1]].concat();
-    entry.exp_slice_heights_in_ctus_minus1 = Some(heights_minus1);
-    partitioned(&[0], &[1000], 0, 999, vec![entry])
+    partitioned(&[0], &[1000], 0, 999, vec![laid::split(&heights_minus1)])
 }

@@ -2,7 +2,9 @@
 //! the call, and a few places behind each that nobody may touch.
 
 use crate::escape::GUARD;
-use crate::ours::{self, ByteCount, Given, Pps, PpsRead, Tables};
+use crate::ours::{
+    self, ByteCount, CoverAnswer, Given, GridAnswer, PlanAnswer, Pps, PpsRead, Tables,
+};
 use crate::random::Random;
 use std::fmt::{self, Debug};
 
@@ -194,9 +196,8 @@ impl Lent {
         ours::parse_pps(nal, self.work.lent(), tables)
     }
 
-    /// Writes a record with these tables, its extension bits out of the work buffer.
-    pub fn write_pps(&self, pps: &Pps, form: Form, out: &mut [u8]) -> ByteCount {
-        let given = Given {
+    fn given(&self) -> Given<'_> {
+        Given {
             subpic_ids: self.subpic_ids.held(),
             tile_column_widths: self.tile_column_widths.held(),
             tile_row_heights: self.tile_row_heights.held(),
@@ -209,11 +210,28 @@ impl Lent {
             split_heights: self.split_heights.held(),
             triples: &self.triples,
             extension: self.work.held(),
-        };
+        }
+    }
+
+    /// Writes a record with these tables, its extension bits out of the work buffer.
+    pub fn write_pps(&self, pps: &Pps, form: Form, out: &mut [u8]) -> ByteCount {
+        let given = self.given();
         match form {
             Form::Rbsp => ours::write_pps(pps, &given, out),
             Form::Nal => ours::write_pps_nal(pps, &given, out),
         }
+    }
+
+    pub fn tile_grid(&self, pps: &Pps) -> GridAnswer {
+        ours::tile_grid(pps, &self.given())
+    }
+
+    pub fn slice_plan(&self, pps: &Pps) -> PlanAnswer {
+        ours::slice_plan(pps, &self.given())
+    }
+
+    pub fn cover(&self, pps: &Pps) -> CoverAnswer {
+        ours::cover(pps, &self.given())
     }
 
     pub fn clear_tables(&mut self) {

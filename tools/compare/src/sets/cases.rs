@@ -16,12 +16,12 @@ pub fn random(random: &mut Random, tally: &mut Tally) {
     compare(&set, |len| rooms(random, len), tally);
 }
 
-fn record(random: &mut Random) -> VvcPps {
+pub fn record(random: &mut Random) -> VvcPps {
     parse_pps(&unit(random, 0)).expect("a unit within all limits")
 }
 
 /// A set within all limits, now and then with a table too short.
-fn right(random: &mut Random) -> Set {
+pub fn right(random: &mut Random) -> Set {
     let record = record(random);
     let first_bit = random.below(2) * random.below(40);
     let mut lengths = Lengths::random(random, &[]);
@@ -50,10 +50,12 @@ pub fn exhaustive(tally: &mut Tally) {
     let mut records = vec![smallest.clone()];
     records.extend((0..40).map(|_| record(seeded)));
     for record in &records {
-        every_field(&Set::least(record), tally);
+        every_field(&Set::least(record), &mut |set| compare(set, ample, tally));
         every_room(&Set::least(record), tally);
     }
-    lengths(&records, tally);
+    for record in &records {
+        every_length(record, |set| compare(set, ample, tally));
+    }
     extension_bits(&smallest, tally);
 }
 
@@ -62,17 +64,17 @@ pub fn ample(len: usize) -> [usize; 1] {
 }
 
 /// Each field with each of the values that the tests tell apart, on their sides.
-fn every_field(set: &Set, tally: &mut Tally) {
+pub fn every_field(set: &Set, compare: &mut impl FnMut(&Set)) {
     let numbers = [
         0, 1, 2, 5, 6, 7, 14, 15, 16, 29, 30, 31, 989, 990, 991, 998, 999, 1000, 1001,
     ];
     let numbers = || numbers.into_iter().chain([u32::MAX - 1, u32::MAX]);
     let signed = || [i32::MIN, i32::MIN + 1, -13, -12, 0, 12, 13, i32::MAX].into_iter();
     let bytes = || [0, 1, 2, 3, 15, 16, 63, 64, 128, 255].into_iter();
-    with_each(set, |set| fields::bytes(&mut set.pps), bytes, tally);
-    with_each(set, |set| fields::numbers(&mut set.pps), numbers, tally);
-    with_each(set, |set| fields::signed(&mut set.pps), signed, tally);
-    with_each(set, triples, signed, tally);
+    with_each(set, |set| fields::bytes(&mut set.pps), bytes, compare);
+    with_each(set, |set| fields::numbers(&mut set.pps), numbers, compare);
+    with_each(set, |set| fields::signed(&mut set.pps), signed, compare);
+    with_each(set, triples, signed, compare);
 }
 
 fn triples(set: &mut Set) -> Vec<&mut i32> {
@@ -83,14 +85,14 @@ fn with_each<T: Copy, V: Iterator<Item = T>>(
     set: &Set,
     fields: impl for<'a> Fn(&'a mut Set) -> Vec<&'a mut T>,
     values: impl Fn() -> V,
-    tally: &mut Tally,
+    compare: &mut impl FnMut(&Set),
 ) {
     let mut set = set.clone();
     for i in 0..fields(&mut set).len() {
         let before = *fields(&mut set)[i];
         for value in values() {
             *fields(&mut set)[i] = value;
-            compare(&set, ample, tally);
+            compare(&set);
         }
         *fields(&mut set)[i] = before;
     }
@@ -101,15 +103,13 @@ fn every_room(set: &Set, tally: &mut Tally) {
 }
 
 /// Each table from nothing to more than is asked for.
-fn lengths(records: &[VvcPps], tally: &mut Tally) {
-    for record in records {
-        for i in 0..LEAST.len() {
-            for len in [0, 1, LEAST[i] / 2, LEAST[i] - 1, LEAST[i] + 1, 5000] {
-                let mut lengths = Lengths::least(&[]);
-                lengths.work = record.pps_extension_data.len().div_ceil(8);
-                lengths.tables[i] = len;
-                compare(&Set::new(record, &lengths, 0), ample, tally);
-            }
+pub fn every_length(record: &VvcPps, mut compare: impl FnMut(&Set)) {
+    for i in 0..LEAST.len() {
+        for len in [0, 1, LEAST[i] / 2, LEAST[i] - 1, LEAST[i] + 1, 5000] {
+            let mut lengths = Lengths::least(&[]);
+            lengths.work = record.pps_extension_data.len().div_ceil(8);
+            lengths.tables[i] = len;
+            compare(&Set::new(record, &lengths, 0));
         }
     }
 }

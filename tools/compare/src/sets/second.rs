@@ -25,7 +25,7 @@ fn tested(set: &Set) -> Result<(), u8> {
     }
     must((pps.partition.present != 0) == partitioned, 26)?;
     if partitioned {
-        partition::tested(pps, lent)?;
+        partition::tested(pps, lent, partition::By::Writing)?;
     }
     back(pps, &lent.triples)?;
     extension(set)

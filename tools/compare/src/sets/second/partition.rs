@@ -1,21 +1,34 @@
-//! The partition block of a set to be written: tiles, then the rectangular slices (H.266 6.5.1,
-//! 7.4.3.5).
+//! The partition block of a set to be written or asked about: tiles, then the rectangular slices (H.266
+//! 6.5.1, 7.4.3.5).
 
 use crate::ours::{Partition, Pps};
 use crate::reading::Lent;
 use crate::reading::second::must;
 use crate::reading::second::partition::{Grid, filled, moved, slices_of_tile};
 
-pub fn tested(pps: &Pps, lent: &Lent) -> Result<(), u8> {
+/// Who tests: the questions add two tests.
+#[derive(Clone, Copy, PartialEq)]
+pub enum By {
+    Writing,
+    Questions,
+}
+
+pub fn tested(pps: &Pps, lent: &Lent, by: By) -> Result<(), u8> {
     let p = &pps.partition;
     let grid = grid(pps, lent)?;
     must(grid.tiles() > 1 || p.pps_rect_slice_flag == 1, 26)?;
     if p.pps_rect_slice_flag != 0 && p.pps_single_slice_per_subpic_flag == 0 {
         must(p.pps_num_slices_in_pic_minus1 <= 999, 14)?;
-        slices(p, &grid, lent)
+        must(by == By::Writing || !uncoded_delta_flag(p), 26)?;
+        slices(p, &grid, lent, by)
     } else {
         must(p.num_rect_slices == 0, 26)
     }
+}
+
+/// A delta flag with N under 2, where it isn't coded.
+pub fn uncoded_delta_flag(p: &Partition) -> bool {
+    p.pps_tile_idx_delta_present_flag != 0 && p.pps_num_slices_in_pic_minus1 < 2
 }
 
 /// The picture in CTBs.
@@ -51,11 +64,11 @@ fn sizes(table: &[u32], count: u32) -> Vec<u64> {
     sizes.take(count as usize).collect()
 }
 
-fn slices(p: &Partition, grid: &Grid, lent: &Lent) -> Result<(), u8> {
+fn slices(p: &Partition, grid: &Grid, lent: &Lent, by: By) -> Result<(), u8> {
     let last = u64::from(p.pps_num_slices_in_pic_minus1);
     let deltas = p.pps_tile_idx_delta_present_flag != 0;
     let mut split_heights = lent.split_heights.held();
-    let (mut slice, mut tile, mut entry) = (0, 0, 0);
+    let (mut slice, mut tile, mut entry, mut preceding_height) = (0, 0, 0, 0);
     while slice < last {
         must(entry < p.num_rect_slices as usize, 26)?;
         let width = u64::from(lent.slice_widths.held()[entry]);
@@ -63,6 +76,14 @@ fn slices(p: &Partition, grid: &Grid, lent: &Lent) -> Result<(), u8> {
         let (column, row) = (tile % grid.columns, tile / grid.columns);
         must(column + width < grid.columns, 15)?;
         must(row + height < grid.rows(), 15)?;
+        let coded = deltas || column == 0;
+        let inferred = if row + 1 == grid.rows() {
+            0
+        } else {
+            preceding_height
+        };
+        must(by == By::Writing || coded || height == inferred, 26)?;
+        preceding_height = height;
         let row_height = grid.row_heights[row as usize];
         let may_split = width == 0 && height == 0 && row_height > 1;
         must((lent.split_present.held()[entry] != 0) == may_split, 26)?;
