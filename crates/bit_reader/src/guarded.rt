@@ -12,10 +12,16 @@ pub fn demand(ok: bool, number: u8, c: Cursor) -> Cursor
     ensures { λ r. ⌜ r ≡ demanded ok number c ⌝ }
 {
     if ok {
-        return c;
+        return Cursor {
+            at: c.at,
+            refused: c.refused,
+        };
     }
     if c.refused != 0 {
-        return c;
+        return Cursor {
+            at: c.at,
+            refused: c.refused,
+        };
     }
     Cursor {
         at: c.at,
@@ -32,7 +38,10 @@ pub fn flag_or(s: &[u8], on: bool, inferred: u8, c: Cursor) -> ByteRead
     }
     ByteRead {
         value: inferred,
-        next: c,
+        next: Cursor {
+            at: c.at,
+            refused: c.refused,
+        },
     }
 }
 
@@ -45,7 +54,10 @@ pub fn u_or(s: &[u8], on: bool, n: u32, inferred: u32, c: Cursor) -> BitsRead
     }
     BitsRead {
         value: inferred,
-        next: c,
+        next: Cursor {
+            at: c.at,
+            refused: c.refused,
+        },
     }
 }
 
@@ -58,7 +70,10 @@ pub fn ue_or(s: &[u8], on: bool, inferred: u32, c: Cursor) -> BitsRead
     }
     BitsRead {
         value: inferred,
-        next: c,
+        next: Cursor {
+            at: c.at,
+            refused: c.refused,
+        },
     }
 }
 
@@ -71,6 +86,9 @@ pub fn se_or(s: &[u8], on: bool, inferred: i32, c: Cursor) -> SignedRead
     }
     SignedRead {
         value: inferred,
-        next: c,
+        next: Cursor {
+            at: c.at,
+            refused: c.refused,
+        },
     }
 }

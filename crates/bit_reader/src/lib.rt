@@ -106,12 +106,24 @@ pub fn u(s: &[u8], c: Cursor, n: u32) -> BitsRead
     ensures { λ r. ⌜ r ≡ uRead (now (s .entry)) c (min n 32) ⌝ }
 {
     if c.refused != 0 {
-        return BitsRead { value: 0, next: c };
+        return BitsRead {
+            value: 0,
+            next: Cursor {
+                at: c.at,
+                refused: c.refused,
+            },
+        };
     }
     let at = c.at;
     let end = bit_count(s);
     if at >= end {
-        return BitsRead { value: 0, next: c };
+        return BitsRead {
+            value: 0,
+            next: Cursor {
+                at: c.at,
+                refused: c.refused,
+            },
+        };
     }
     let m = at_most_32(n);
     let next = move_on(s, at, m as usize);
@@ -152,12 +164,24 @@ pub fn flag(s: &[u8], c: Cursor) -> ByteRead
     ensures { λ r. ⌜ r ≡ byteRead (now (s .entry)) c 1 ⌝ }
 {
     if c.refused != 0 {
-        return ByteRead { value: 0, next: c };
+        return ByteRead {
+            value: 0,
+            next: Cursor {
+                at: c.at,
+                refused: c.refused,
+            },
+        };
     }
     let at = c.at;
     let end = bit_count(s);
     if at >= end {
-        return ByteRead { value: 0, next: c };
+        return ByteRead {
+            value: 0,
+            next: Cursor {
+                at: c.at,
+                refused: c.refused,
+            },
+        };
     }
     ByteRead {
         value: bit_at(s, at),
@@ -200,12 +224,24 @@ pub fn ue(s: &[u8], c: Cursor) -> BitsRead
     ensures { λ r. ⌜ r ≡ ueRead (now (s .entry)) c ⌝ }
 {
     if c.refused != 0 {
-        return BitsRead { value: 0, next: c };
+        return BitsRead {
+            value: 0,
+            next: Cursor {
+                at: c.at,
+                refused: c.refused,
+            },
+        };
     }
     let at = c.at;
     let end = bit_count(s);
     if at >= end {
-        return BitsRead { value: 0, next: c };
+        return BitsRead {
+            value: 0,
+            next: Cursor {
+                at: c.at,
+                refused: c.refused,
+            },
+        };
     }
     let z = zeros_from(s, at);
     if z >= 32 {
@@ -254,7 +290,10 @@ pub fn rbsp_trailing_bits(s: &[u8], c: Cursor) -> Cursor
     ensures { λ r. ⌜ r ≡ trailingRead (now (s .entry)) c ⌝ }
 {
     if c.refused != 0 {
-        return c;
+        return Cursor {
+            at: c.at,
+            refused: c.refused,
+        };
     }
     let at = c.at;
     let end = bit_count(s);

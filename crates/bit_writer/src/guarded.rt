@@ -14,7 +14,14 @@ pub fn put_flag_if(w: Sink, out: &mut [u8], on: bool, v: u8) -> Sink
     if on {
         return super::put_flag(w, out, v);
     }
-    w
+    Sink {
+        escape: w.escape,
+        zeros: w.zeros,
+        put: w.put,
+        cur: w.cur,
+        have: w.have,
+        refused: w.refused,
+    }
 }
 
 pub fn put_bits_if(w: Sink, out: &mut [u8], on: bool, value: u32, n: u32) -> Sink
@@ -23,7 +30,14 @@ pub fn put_bits_if(w: Sink, out: &mut [u8], on: bool, value: u32, n: u32) -> Sin
     if on {
         return super::put_bits(w, out, value, n);
     }
-    w
+    Sink {
+        escape: w.escape,
+        zeros: w.zeros,
+        put: w.put,
+        cur: w.cur,
+        have: w.have,
+        refused: w.refused,
+    }
 }
 
 pub fn put_ue_if(w: Sink, out: &mut [u8], on: bool, v: u32) -> Sink
@@ -32,7 +46,14 @@ pub fn put_ue_if(w: Sink, out: &mut [u8], on: bool, v: u32) -> Sink
     if on {
         return super::put_ue(w, out, v);
     }
-    w
+    Sink {
+        escape: w.escape,
+        zeros: w.zeros,
+        put: w.put,
+        cur: w.cur,
+        have: w.have,
+        refused: w.refused,
+    }
 }
 
 pub fn put_se_if(w: Sink, out: &mut [u8], on: bool, v: i32) -> Sink
@@ -41,5 +62,12 @@ pub fn put_se_if(w: Sink, out: &mut [u8], on: bool, v: i32) -> Sink
     if on {
         return super::put_se(w, out, v);
     }
-    w
+    Sink {
+        escape: w.escape,
+        zeros: w.zeros,
+        put: w.put,
+        cur: w.cur,
+        have: w.have,
+        refused: w.refused,
+    }
 }

@@ -114,10 +114,24 @@ pub fn demand(w: Sink, ok: bool, number: u8) -> Sink
     ensures { λ r. ⌜ ((o : List ℕ) → sinkOver r o ≡ play (sinkOver w o) (check ok number)) ⌝ }
 {
     if ok {
-        return w;
+        return Sink {
+            escape: w.escape,
+            zeros: w.zeros,
+            put: w.put,
+            cur: w.cur,
+            have: w.have,
+            refused: w.refused,
+        };
     }
     if w.refused != 0 {
-        return w;
+        return Sink {
+            escape: w.escape,
+            zeros: w.zeros,
+            put: w.put,
+            cur: w.cur,
+            have: w.have,
+            refused: w.refused,
+        };
     }
     Sink {
         escape: w.escape,
@@ -158,10 +172,24 @@ pub fn finish(w: Sink, out: &mut [u8]) -> Sink
     ensures { λ r. ⌜ sinkOver r (now (out .exit)) ≡ finished (sinkOver w (now (out .entry))) ⌝ }
 {
     if !w.escape {
-        return w;
+        return Sink {
+            escape: w.escape,
+            zeros: w.zeros,
+            put: w.put,
+            cur: w.cur,
+            have: w.have,
+            refused: w.refused,
+        };
     }
     if w.zeros < 2 {
-        return w;
+        return Sink {
+            escape: w.escape,
+            zeros: w.zeros,
+            put: w.put,
+            cur: w.cur,
+            have: w.have,
+            refused: w.refused,
+        };
     }
     bytes::put_raw(w, out, 3)
 }

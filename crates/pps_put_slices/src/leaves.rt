@@ -12,7 +12,14 @@ pub fn put_ue(w: Sink, out: &mut [u8], v: u32) -> Sink
 {
     let a = bit_writer::demand(w, v < 4294967295, 25);
     if a.refused != 0 {
-        return a;
+        return Sink {
+            escape: a.escape,
+            zeros: a.zeros,
+            put: a.put,
+            cur: a.cur,
+            have: a.have,
+            refused: a.refused,
+        };
     }
     bit_writer::put_ue(a, out, v)
 }

@@ -29,7 +29,14 @@ fn put_ue_if(w: Sink, out: &mut [u8], on: bool, v: u32) -> Sink
     if on {
         return put_ue(w, out, v);
     }
-    w
+    Sink {
+        escape: w.escape,
+        zeros: w.zeros,
+        put: w.put,
+        cur: w.cur,
+        have: w.have,
+        refused: w.refused,
+    }
 }
 
 // se(v); 25 for -2147483648.
@@ -38,7 +45,14 @@ fn put_se(w: Sink, out: &mut [u8], v: i32) -> Sink
 {
     let a = demand(w, -2147483647 <= v, 25);
     if a.refused != 0 {
-        return a;
+        return Sink {
+            escape: a.escape,
+            zeros: a.zeros,
+            put: a.put,
+            cur: a.cur,
+            have: a.have,
+            refused: a.refused,
+        };
     }
     bit_writer::put_se(a, out, v)
 }

@@ -8,19 +8,20 @@ use native.Mathlib.Omega.{arith}
 use lib.Dec.{eqb, ltb, leb, lit<}
 use lib.ListN.{length, take, drop}
 use lib.Seq.{sets, length-sets, sets-eq, drop-at, take-at, length-take-le}
-use borrow.Author.Tests.{ltb-true, leb-true, leb-false, le-ltb, lt-ltb}
+use borrow.Author.Tests.{ltb-true, leb-true, leb-false, le-leb, le-ltb, lt-ltb}
 use Rattle.bit_reader.specs.declared.Cursor.{Cursor}
 use Rattle.bit_reader.specs.declared.BitsRead.{BitsRead}
 use Rattle.bit_reader.specs.Reading.{ueRead, demanded, bitsOr}
 use Rattle.partition.specs.Entry.{tileX, tileY, widthCoded, heightCoded, inheritedHeight, numSlicesInTile, splitHeights}
 use Rattle.partition.specs.Sizes.{sum, explicitSizes, length-sizes}
-use Rattle.syntax.specs.Element.{Parsed}
+use Rattle.syntax.specs.Element.{Parsed, parsed}
 use Rattle.syntax.specs.Lists.{not-true}
 use Rattle.tile_sizes.specs.declared.SlicesInTile.{SlicesInTile}
 use Rattle.tile_sizes.specs.Answers.{slicesInTile}
 use Rattle.tile_sizes.specs.Laws.{slices-number, slices-count}
 use Rattle.pps_fields.specs.FieldReads.{tested}
-use Rattle.pps_fields.specs.Sizes.{sizesRead}
+use Rattle.pps_fields.specs.ListReads.{list-none}
+use Rattle.pps_fields.specs.Sizes.{sizesRead, sizes-is}
 use Rattle.pps_slices.specs.SizeReads.{demanded-held, sizes-most, sizes-stuck}
 use Rattle.pps_slices.specs.EntryReads.{widthRead, heightRead, countRead, countTested, heightsRead, lastOf, heightsTested}
 
@@ -138,3 +139,30 @@ pub tests-made : (row N i : ℕ) (x : Parsed (List ℕ)) (r : SlicesInTile) (sli
 unfolding heightsTested lastOf
 tests-made row N i x r slices past c d e p q f g h =
     h ∙ rw (g, f, p, fits-made r (x .value) row (q .0), not-past N (i + slices - 1), q .1)
+
+-- ---- a slice that is not split
+
+-- nothing is read
+none-read : (row N i : ℕ) (s : List ℕ) (c : Cursor) → heightsRead false row N i s c ≡ parsed [] c
+unfolding heightsRead countTested countRead bitsOr demanded
+none-read row N i s c = sym (sizes-is 0 row 16 s c) ∙ list-none _ s c
+
+-- it is the one slice of its index
+none-last : (i row : ℕ) → lastOf i row [] ≡ i
+unfolding lastOf numSlicesInTile splitHeights
+none-last i row = omega arith
+
+-- it passes the tests
+none-tested : (row N i : ℕ) (c : Cursor) → i ≤ N → heightsTested row N i (parsed [] c) ≡ c
+unfolding heightsTested sum explicitSizes demanded
+none-tested row N i c h = rw (none-last i row, le-leb i N h, le-leb 0 row (omega arith))
+
+pub unsplit-made : (split : Bool) (row N i from last : ℕ) (t s : List ℕ) (c : Cursor) → not split ≡ true → i ≤ N → last ≡ i
+    → (0 ≡ length (heightsRead split row N i s c .value)) × ((last ≡ min (lastOf i row (heightsRead split row N i s c .value)) N)
+    × ((c ≡ heightsTested row N i (heightsRead split row N i s c)) × (t ≡ sets t from (heightsRead split row N i s c .value))))
+unsplit-made split row N i from last t s c e h f =
+    rw (off split e, none-read row N i s c, none-last i row, none-tested row N i c h) (refl, (omega (arith, f), (refl, refl)))
+  where
+    off : (b : Bool) → not b ≡ true → b ≡ false
+    off false e = refl
+    off true e = absurd (not-true e)

@@ -11,6 +11,7 @@ use Rattle.bit_reader.specs.declared.Cursor.{Cursor}
 use Rattle.bit_reader.specs.declared.SignedRead.{SignedRead}
 use Rattle.bit_reader.specs.Reading.{seRead, demanded, signedOr}
 use Rattle.partition.specs.Entry.{tileAfterDelta, deltaRefused, defaultAdvance}
+use Rattle.syntax.specs.Lists.{not-true}
 use Rattle.slice_loop.specs.declared.TileIdx.{TileIdx}
 use Rattle.slice_loop.specs.declared.NextTile.{NextTile}
 use Rattle.slice_loop.specs.Answers.{tileIdx, nextByDelta}
@@ -76,3 +77,12 @@ module _ (columns tiles : ℕ) (deltas more : Bool) (t width height : ℕ) (s : 
         next = is ∙ ap (moveTested columns tiles deltas more t width height) read;
         tile = λ z l. h₈ ∙ tile-made d (n .«tile_idx» .0) (a .0) (ap (λ (x : NextTile). x .«tile_idx» .0) h₃) (ap (λ (x : TileIdx). x .0) h₅) (sym (ap (λ (x : Cursor). x .refused) is) ∙ z) l;
       }
+
+-- without deltas there is the default advance alone
+pub move-default : (columns tiles : ℕ) (deltas more : Bool) (t width height : ℕ) (s : List ℕ) (c : Cursor) → tiles ≤ 4294967295 → (a : TileIdx) (m within : Bool) (f : Cursor)
+    → not deltas ≡ true → m ≡ more → a ≡ tileIdx (defaultAdvance columns t width height) → within ≡ ltb (a .0) tiles → f ≡ demanded (not m || within) 19 c
+    → Moved columns tiles deltas more t width height s c (record { coded = false; delta = pos 0; tile = a; next = f })
+unfolding signedOr demanded
+move-default columns tiles true more t width height s c bound a m within f e h₁ h₂ h₃ h₄ = absurd (not-true e)
+move-default columns tiles false more t width height s c bound a m within f e h₁ h₂ h₃ h₄ =
+    move-made columns tiles false more t width height s c bound (record { value = pos 0; next = c }) (nextByDelta tiles t (pos 0)) a a m within c f h₁ refl refl refl h₂ h₃ h₄ refl

@@ -168,6 +168,17 @@ pub fn read_split(
     ensures next { λ r. ⌜ r .next ≡ heightsTested (row .0) (ctx .«num_slices_minus1» .0) (slice .0) (heightsRead split (row .0) (ctx .«num_slices_minus1» .0) (slice .0) (now (s .entry)) c) ⌝ }
     ensures table { λ _. ⌜ now («split_heights» .exit) ≡ sets (now («split_heights» .entry)) from (heightsRead split (row .0) (ctx .«num_slices_minus1» .0) (slice .0) (now (s .entry)) c .value) ⌝ }
 {
+    if !split {
+        let last = SliceIdx(slice.0);
+        return SplitRead {
+            count: 0,
+            last,
+            next: Cursor {
+                at: c.at,
+                refused: c.refused,
+            },
+        };
+    }
     let n = ctx.num_slices_minus1;
     let heights = read_heights(s, split, row, n, slice, split_heights, from, c);
     let count = heights.count;
@@ -219,6 +230,17 @@ pub fn read_move(
     ensures { λ r. ⌜ Moved (ctx .«num_tile_columns») (ctx .«num_tile_rows» * ctx .«num_tile_columns») (ctx .«delta_present») (ltb (last .0) (ctx .«num_slices_minus1» .0)) (tile .0) width height (now (s .entry)) c r ⌝ }
 {
     let more = ctx.slices_to_come(last);
+    if !ctx.delta_present {
+        let tile = ctx.default_advance(tile, width, height);
+        let within = inside(ctx, tile);
+        let next = demand(!more | within, 19, c);
+        return MoveRead {
+            coded: false,
+            delta: 0,
+            tile,
+            next,
+        };
+    }
     let coded = ctx.delta_present & more;
     let delta = se_or(s, coded, 0, c);
     let by_delta = ctx.apply_delta(tile, delta.value);

@@ -1,16 +1,19 @@
--- The two runs of writing: one over an empty output, which finds the refusal and counts, and one that writes.
+-- The runs of writing: one over bytes of its own, which finds the refusal and counts, and for more bytes than those one that writes.
 use Prim.Native.Nat.{ℕ, _+_, _*_, _/_, _%_, _^_, _≤_, _<_}
 use mathlib.Core.Path.{_≡_, refl, sym, ap, ap₂, _∙_}
 use mathlib.Core.Bool.{Bool, true, false, cond, _&&_, _||_}
-use mathlib.Core.List.{List, [], _∷_, _++_}
+use mathlib.Core.List.{List, [], _∷_, _++_, append-nil}
 use native.Mathlib.Omega.{arith}
 use lib.Dec.{eqb, leb, ltb}
 use lib.IntN.{ℤ}
-use lib.ListN.{length}
-use borrow.Author.Tests.{eqb-true, leb-true, leb-false, le-leb, lt-leb}
+use lib.ListN.{length, take, drop}
+use lib.Seq.{sets, take-at}
+use borrow.Author.Tests.{eqb-true, leb-true, leb-false, le-leb, lt-leb, ltb-false}
 use Rattle.codes.specs.Symbols.{Symbol, putting, first, first-left, first-right, refusalIn, refusal-putting}
 use Rattle.nal.specs.declared.ByteCount.{ByteCount}
 use Rattle.nal.specs.declared.ByteCount.the-variants.{Bytes, Refused}
+use Rattle.nal.specs.Answers.{outAfter}
+use Rattle.tables.specs.Tables.{over, sets-over, sets-none}
 use Rattle.bit_writer.specs.Answers.{answered, answerOf, writtenAnswer, writtenOut, answer-is, out-kept, out-written}
 use Rattle.bit_writer.specs.Closing.{Ran, plain-ran, nal-ran}
 use Rattle.bit_writer.specs.Writing.{Writing, putRaw, putRaws, finished, trailingBits, play, closed}
@@ -73,9 +76,33 @@ answer-5 : (bytes out : List ℕ) → Refused 5 ≡ writtenAnswer 5 bytes out
 unfolding writtenAnswer answered
 answer-5 bytes out = refl
 
-nothing : (l : List ℕ) → length l ≡ 0 → l ≡ []
-nothing [] e = refl
-nothing (x ∷ l) e = absurd (omega arith)
+-- an accepted number of bytes is theirs, and they fit
+accepted-count : (k n : ℕ) (bytes out : List ℕ) → writtenAnswer k bytes out ≡ Bytes n → (n ≡ length bytes) × (length bytes ≤ length out)
+unfolding writtenAnswer answered
+accepted-count k n bytes out = split (eqb k 0) refl (ltb (length out) (length bytes)) refl
+  where
+    split : (t : Bool) → eqb k 0 ≡ t → (u : Bool) → ltb (length out) (length bytes) ≡ u → cond t (cond u (Refused 29) (Bytes (length bytes))) (Refused k) ≡ Bytes n
+        → (n ≡ length bytes) × (length bytes ≤ length out)
+    split true e true f q = let z : _≡_ {A = ℕ} 0 1 = cc in absurd (omega arith)
+    split true e false f q = (cc, ltb-false (length out) (length bytes) f)
+    split false e u f q = let z : _≡_ {A = ℕ} 0 1 = cc in absurd (omega arith)
+
+-- what a run over any bytes says of an output
+own-answer : (w : Writing) (k : ℕ) (bytes out o : List ℕ) → Ran w k bytes o → length out < 2 ^ 63 → answerOf (w .sink) (length out) ≡ writtenAnswer k bytes out
+own-answer w k bytes out o a h =
+    answer-is (record { sink = w .sink; out = [] }) k bytes out (record { refused = a .refused; count = a .count; written = sym (sets-none bytes 0) }) h
+
+front-is : (xs o : List ℕ) (n : ℕ) → n ≡ length xs → length xs ≤ length o → take n (sets o 0 xs) ≡ xs
+unfolding over
+front-is xs o n e h = ap (take n) (sets-over o xs h) ∙ take-at xs (drop (length xs) o) n (sym e)
+
+over-is : (xs out : List ℕ) → take (length xs) xs ++ drop (length xs) out ≡ over xs out
+unfolding over
+over-is xs out = ap (λ (l : List ℕ). l ++ drop (length xs) out) (ap (take (length xs)) (sym (append-nil xs)) ∙ take-at xs [] (length xs) refl)
+
+out-over : (k n : ℕ) (bytes out : List ℕ) → writtenAnswer k bytes out ≡ Bytes n → over bytes out ≡ writtenOut k bytes out
+unfolding writtenOut outAfter
+out-over k n bytes out e = rw e
 
 module _ (nal : Bool) (r : VvcPps) (t : Lent) (bytes : List ℕ) where
   -- what the set is refused with, 5 aside
@@ -93,30 +120,40 @@ module _ (nal : Bool) (r : VvcPps) (t : Lent) (bytes : List ℕ) where
   unfolding setClosed writeBytes
   run-whole o h e z = whole-ran nal (setFrom r t) (extensionFrom r bytes) o h (e ∙ ap (λ (xs : List Symbol). closed (play (begun nal o) xs)) (put-whole (setFrom r t) (extensionFrom r bytes) z))
 
-  -- ---- both runs, in code: the first is over `&mut out[..0]`
-  module _ (out : List ℕ) (small : length out < 2 ^ 63) {first : Writing} (ran : first ≡ setClosed nal r t bytes []) (short : length (first .out) ≡ 0) where
-    said : {answer : ByteCount} → answer ≡ answerOf (first .sink) (length (first .out ++ out)) → answer ≡ writtenAnswer inSet (writeBytes nal r t bytes) out
+  -- ---- a run over bytes of its own, and what becomes of the output
+  module _ (out o : List ℕ) (small : length out < 2 ^ 63) {first : Writing} (ran : first ≡ setClosed nal r t bytes o) (room : length o ≤ 2 ^ 63) where
+    own-said : {answer : ByteCount} → answer ≡ answerOf (first .sink) (length out) → answer ≡ writtenAnswer inSet (writeBytes nal r t bytes) out
     unfolding answerOf writtenAnswer answered
-    said e = e ∙ ap (λ (l : List ℕ). answerOf (first .sink) (length (l ++ out))) (nothing (first .out) short) ∙ split (eqb inSet 0) refl
+    own-said e = e ∙ split (eqb inSet 0) refl
       where
         split : (b : Bool) → eqb inSet 0 ≡ b → answerOf (first .sink) (length out) ≡ writtenAnswer inSet (writeBytes nal r t bytes) out
-        split true q = answer-is first inSet (writeBytes nal r t bytes) out (run-whole [] (omega arith) ran (eqb-true inSet 0 q)) small
-        split false q = rw (run-refused [] ran, q)
+        split true q = own-answer first inSet (writeBytes nal r t bytes) out o (run-whole o room ran (eqb-true inSet 0 q)) small
+        split false q = rw (run-refused o ran, q)
 
-    pub refused-run : {answer : ByteCount} (n : ℕ) → answer ≡ answerOf (first .sink) (length (first .out ++ out)) → answer ≡ Refused n
-        → (Refused n ≡ writtenAnswer inSet (writeBytes nal r t bytes) out) × (first .out ++ out ≡ writtenOut inSet (writeBytes nal r t bytes) out)
-    refused-run n e d =
-        let a = said e in
-        (sym d ∙ a, ap (λ (l : List ℕ). l ++ out) (nothing (first .out) short) ∙ out-kept inSet n (writeBytes nal r t bytes) out (sym a ∙ d))
+    pub own-refused : {answer : ByteCount} (n : ℕ) → answer ≡ answerOf (first .sink) (length out) → answer ≡ Refused n
+        → (Refused n ≡ writtenAnswer inSet (writeBytes nal r t bytes) out) × (out ≡ writtenOut inSet (writeBytes nal r t bytes) out)
+    own-refused n e d = let a = own-said e in (sym d ∙ a, out-kept inSet n (writeBytes nal r t bytes) out (sym a ∙ d))
 
-    pub written-run : {answer : ByteCount} (n : ℕ) {second : Writing} → answer ≡ answerOf (first .sink) (length (first .out ++ out)) → answer ≡ Bytes n → second ≡ setClosed nal r t bytes (first .out ++ out)
+    pub own-again : {answer : ByteCount} (n : ℕ) {second : Writing} → answer ≡ answerOf (first .sink) (length out) → answer ≡ Bytes n → second ≡ setClosed nal r t bytes out
         → (Bytes n ≡ writtenAnswer inSet (writeBytes nal r t bytes) out) × (second .out ≡ writtenOut inSet (writeBytes nal r t bytes) out)
-    written-run n {second} e d w =
-        let a = said e in
-        let b : writtenAnswer inSet (writeBytes nal r t bytes) out ≡ Bytes n = sym a ∙ d in
-        let z : inSet ≡ 0 = accepted-none inSet n (writeBytes nal r t bytes) out b in
-        let v : second ≡ setClosed nal r t bytes out = w ∙ ap (λ (l : List ℕ). setClosed nal r t bytes (l ++ out)) (nothing (first .out) short) in
-        (sym b, out-written second inSet n (writeBytes nal r t bytes) out b (run-whole out (omega arith) v z))
+    own-again n {second} e d w =
+        let b : writtenAnswer inSet (writeBytes nal r t bytes) out ≡ Bytes n = sym (own-said e) ∙ d in
+        (sym b, out-written second inSet n (writeBytes nal r t bytes) out b (run-whole out (omega arith) w (accepted-none inSet n (writeBytes nal r t bytes) out b)))
+
+    pub own-fits : {answer : ByteCount} (n : ℕ) → answer ≡ answerOf (first .sink) (length out) → answer ≡ Bytes n → n ≤ length out
+    own-fits n e d = let k = accepted-count inSet n (writeBytes nal r t bytes) out (sym (own-said e) ∙ d) in omega (arith, k .0, k .1)
+
+    -- the first n of its bytes, copied
+    pub own-copied : {answer : ByteCount} (n : ℕ) {left : List ℕ} → answer ≡ answerOf (first .sink) (length out) → answer ≡ Bytes n → n ≤ length o
+        → left ≡ take (length (take n (first .out))) (take n (first .out)) ++ drop (length (take n (first .out))) out
+        → (Bytes n ≡ writtenAnswer inSet (writeBytes nal r t bytes) out) × (left ≡ writtenOut inSet (writeBytes nal r t bytes) out)
+    own-copied n {left} e d h f =
+        let wb = writeBytes nal r t bytes in
+        let b : writtenAnswer inSet wb out ≡ Bytes n = sym (own-said e) ∙ d in
+        let k = accepted-count inSet n wb out b in
+        let w = run-whole o room ran (accepted-none inSet n wb out b) in
+        let front : take n (first .out) ≡ wb = ap (take n) (w .written) ∙ front-is wb o n (k .0) (omega (arith, k .0)) in
+        (sym b, f ∙ ap (λ (l : List ℕ). take (length l) l ++ drop (length l) out) front ∙ over-is wb out ∙ out-over inSet n wb out b)
 
   -- ---- behind the test of what is lent
   pub lent-wrong : (out : List ℕ) {a b : Bool} → a ≡ (tablesLong t && countsFit r t) → b ≡ extensionLent r bytes → (a && b) ≡ false

@@ -23,7 +23,7 @@ fn bits_inside(first: usize, count: usize, len: usize) -> bool
     first / 8 + count / 8 + (first % 8 + count % 8 + 7) / 8 <= len
 }
 
-// Two runs: one over an empty output, which finds any refusal and counts the bytes, and one that puts them.
+// A run over 1,024 bytes of its own finds any refusal and counts the bytes. What fits there is copied; more is put by a second run.
 fn write_twice(
     nal: bool,
     pps: VvcPps,
@@ -44,8 +44,9 @@ fn write_twice(
     ensures answer { λ r. ⌜ r ≡ writtenAnswer (inSet nal pps (lent (now («subpic_ids» .entry)) (now («tile_column_widths» .entry)) (now («tile_row_heights» .entry)) (sliceTables (now (widths .entry)) (now (heights .entry)) (now («split_present» .entry)) (now («split_counts» .entry)) (now («delta_present» .entry)) (now (deltas .entry)) (now («split_heights» .entry))) triples) (now (extension .entry))) (writeBytes nal pps (lent (now («subpic_ids» .entry)) (now («tile_column_widths» .entry)) (now («tile_row_heights» .entry)) (sliceTables (now (widths .entry)) (now (heights .entry)) (now («split_present» .entry)) (now («split_counts» .entry)) (now («delta_present» .entry)) (now (deltas .entry)) (now («split_heights» .entry))) triples) (now (extension .entry))) (now (out .entry)) ⌝ }
     ensures output { λ _. ⌜ now (out .exit) ≡ writtenOut (inSet nal pps (lent (now («subpic_ids» .entry)) (now («tile_column_widths» .entry)) (now («tile_row_heights» .entry)) (sliceTables (now (widths .entry)) (now (heights .entry)) (now («split_present» .entry)) (now («split_counts» .entry)) (now («delta_present» .entry)) (now (deltas .entry)) (now («split_heights» .entry))) triples) (now (extension .entry))) (writeBytes nal pps (lent (now («subpic_ids» .entry)) (now («tile_column_widths» .entry)) (now («tile_row_heights» .entry)) (sliceTables (now (widths .entry)) (now (heights .entry)) (now («split_present» .entry)) (now («split_counts» .entry)) (now («delta_present» .entry)) (now (deltas .entry)) (now («split_heights» .entry))) triples) (now (extension .entry))) (now (out .entry)) ⌝ }
 {
+    let mut short = [0u8; 1024];
     let first = put_set(
-        &mut out[..0],
+        &mut short,
         nal,
         pps,
         subpic_ids,
@@ -64,7 +65,11 @@ fn write_twice(
     let answer = bit_writer::answer(first, out.len());
     match answer {
         ByteCount::Refused(_number) => answer,
-        ByteCount::Bytes(_count) => {
+        ByteCount::Bytes(count) => {
+            if count <= 1024 {
+                bytes::copy(&short[..count], out);
+                return answer;
+            }
             put_set(
                 out,
                 nal,

@@ -16,12 +16,12 @@ returns-2 c = flag-past _ _ (c .before .before .if1 .left) (omega arith)
 bit-at-requires : tie.Need-bit-at-requires
 bit-at-requires c κs = search needs
 
-add-t7 : tie.Need-add-t7
-add-t7 c = search needs
+add-t9 : tie.Need-add-t9
+add-t9 c = search needs
 
 returns-3 : tie.Need-returns-3
 returns-3 c = flag-made _ _ _ (c .before .before .before .if1 .left) (omega arith) (c .bit-at .ensures)
 
 pub flag-spec : {M : Type 1} → statement M
 flag-spec =
-    tie.close (tie.spec returns bit-count-requires returns-2 bit-at-requires add-t7 returns-3)
+    tie.close (tie.spec returns bit-count-requires returns-2 bit-at-requires add-t9 returns-3)
