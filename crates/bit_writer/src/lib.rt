@@ -18,7 +18,7 @@ pub mod copy;
 mod exp_golomb;
 pub mod guarded;
 
-// Where writing stands.
+// Where writing stands; handed on field by field, as bit_reader's Cursor is.
 #[repr(C)]
 pub struct Sink {
     // Bytes are escaped as they are made.

@@ -62,7 +62,7 @@ module _ (columns tiles : ℕ) (deltas more : Bool) (t width height : ℕ) (s : 
       cases true u v = e ∙ delta-tile tiles t (d .value) bound (fine _ u)
       cases false u v = f ∙ held-tile (defaultAdvance columns t width height) (omega (arith, ltb-true (defaultAdvance columns t width height) tiles v))
 
-  pub move-made : (d : SignedRead) (n : NextTile) (a b : TileIdx) (m within : Bool) (e f : Cursor) → m ≡ more → d ≡ signedOr (deltas && m) (seRead s c) (pos 0) c
+  move-made : (d : SignedRead) (n : NextTile) (a b : TileIdx) (m within : Bool) (e f : Cursor) → m ≡ more → d ≡ signedOr (deltas && m) (seRead s c) (pos 0) c
       → n ≡ nextByDelta tiles t (d .value) → e ≡ demanded (not (deltas && m) || eqb (n .refused) 0) 18 (d .next) → a ≡ tileIdx (defaultAdvance columns t width height)
       → within ≡ ltb (a .0) tiles → f ≡ demanded (not (not deltas && m) || within) 19 e → b .0 ≡ cond deltas (n .«tile_idx» .0) (a .0)
       → Moved columns tiles deltas more t width height s c (record { coded = deltas && m; delta = d .value; tile = b; next = f })
@@ -78,11 +78,21 @@ module _ (columns tiles : ℕ) (deltas more : Bool) (t width height : ℕ) (s : 
         tile = λ z l. h₈ ∙ tile-made d (n .«tile_idx» .0) (a .0) (ap (λ (x : NextTile). x .«tile_idx» .0) h₃) (ap (λ (x : TileIdx). x .0) h₅) (sym (ap (λ (x : Cursor). x .refused) is) ∙ z) l;
       }
 
+-- with deltas there is the delta alone
+pub move-by-delta : (columns tiles : ℕ) (deltas more : Bool) (t width height : ℕ) (s : List ℕ) (c : Cursor) → tiles ≤ 4294967295 → (d : SignedRead) (n : NextTile) (m : Bool) (f : Cursor)
+    → deltas ≡ true → m ≡ more → d ≡ signedOr m (seRead s c) (pos 0) c → n ≡ nextByDelta tiles t (d .value) → f ≡ demanded (not m || eqb (n .refused) 0) 18 (d .next)
+    → Moved columns tiles deltas more t width height s c (record { coded = m; delta = d .value; tile = n .«tile_idx»; next = f })
+unfolding demanded
+move-by-delta columns tiles true more t width height s c bound d n m f e h₁ h₂ h₃ h₄ =
+    let a = tileIdx (defaultAdvance columns t width height) in
+    move-made columns tiles true more t width height s c bound d n a (n .«tile_idx») m (ltb (a .0) tiles) f f h₁ h₂ h₃ h₄ refl refl refl refl
+move-by-delta columns tiles false more t width height s c bound d n m f e h₁ h₂ h₃ h₄ = absurd (not-true e)
+
 -- without deltas there is the default advance alone
 pub move-default : (columns tiles : ℕ) (deltas more : Bool) (t width height : ℕ) (s : List ℕ) (c : Cursor) → tiles ≤ 4294967295 → (a : TileIdx) (m within : Bool) (f : Cursor)
-    → not deltas ≡ true → m ≡ more → a ≡ tileIdx (defaultAdvance columns t width height) → within ≡ ltb (a .0) tiles → f ≡ demanded (not m || within) 19 c
+    → deltas ≡ false → m ≡ more → a ≡ tileIdx (defaultAdvance columns t width height) → within ≡ ltb (a .0) tiles → f ≡ demanded (not m || within) 19 c
     → Moved columns tiles deltas more t width height s c (record { coded = false; delta = pos 0; tile = a; next = f })
 unfolding signedOr demanded
-move-default columns tiles true more t width height s c bound a m within f e h₁ h₂ h₃ h₄ = absurd (not-true e)
+move-default columns tiles true more t width height s c bound a m within f e h₁ h₂ h₃ h₄ = absurd (not-true (sym e))
 move-default columns tiles false more t width height s c bound a m within f e h₁ h₂ h₃ h₄ =
     move-made columns tiles false more t width height s c bound (record { value = pos 0; next = c }) (nextByDelta tiles t (pos 0)) a a m within c f h₁ refl refl refl h₂ h₃ h₄ refl

@@ -207,15 +207,6 @@ pub fn inside(ctx: SliceLoopCtx, tile: TileIdx) -> bool
     (tile.0 as u64) < tiles
 }
 
-pub fn either_tile(first: bool, a: TileIdx, b: TileIdx) -> TileIdx
-    ensures { λ r. ⌜ r .0 ≡ cond first (a .0) (b .0) ⌝ }
-{
-    if first {
-        return a;
-    }
-    b
-}
-
 // The way to the next slice's tile: pps_tile_idx_delta_val, or the default advance.
 pub fn read_move(
     s: &[u8],
@@ -230,29 +221,24 @@ pub fn read_move(
     ensures { λ r. ⌜ Moved (ctx .«num_tile_columns») (ctx .«num_tile_rows» * ctx .«num_tile_columns») (ctx .«delta_present») (ltb (last .0) (ctx .«num_slices_minus1» .0)) (tile .0) width height (now (s .entry)) c r ⌝ }
 {
     let more = ctx.slices_to_come(last);
-    if !ctx.delta_present {
-        let tile = ctx.default_advance(tile, width, height);
-        let within = inside(ctx, tile);
-        let next = demand(!more | within, 19, c);
+    if ctx.delta_present {
+        let delta = se_or(s, more, 0, c);
+        let by_delta = ctx.apply_delta(tile, delta.value);
+        let next = demand(!more | (by_delta.refused == 0), 18, delta.next);
         return MoveRead {
-            coded: false,
-            delta: 0,
-            tile,
+            coded: more,
+            delta: delta.value,
+            tile: TileIdx(by_delta.tile_idx.0),
             next,
         };
     }
-    let coded = ctx.delta_present & more;
-    let delta = se_or(s, coded, 0, c);
-    let by_delta = ctx.apply_delta(tile, delta.value);
-    let allowed = demand(!coded | (by_delta.refused == 0), 18, delta.next);
     let by_default = ctx.default_advance(tile, width, height);
     let within = inside(ctx, by_default);
-    let next = demand(!(!ctx.delta_present & more) | within, 19, allowed);
-    let tile = either_tile(ctx.delta_present, by_delta.tile_idx, by_default);
+    let next = demand(!more | within, 19, c);
     MoveRead {
-        coded,
-        delta: delta.value,
-        tile,
+        coded: false,
+        delta: 0,
+        tile: by_default,
         next,
     }
 }

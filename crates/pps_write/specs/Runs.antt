@@ -1,20 +1,20 @@
--- The runs of writing: one over bytes of its own, which finds the refusal and counts, and for more bytes than those one that writes.
+-- The runs of writing: one over bytes of its own, which finds the refusal and counts, and for more bytes than those one over the output.
 use Prim.Native.Nat.{ℕ, _+_, _*_, _/_, _%_, _^_, _≤_, _<_}
 use mathlib.Core.Path.{_≡_, refl, sym, ap, ap₂, _∙_}
 use mathlib.Core.Bool.{Bool, true, false, cond, _&&_, _||_}
 use mathlib.Core.List.{List, [], _∷_, _++_, append-nil}
 use native.Mathlib.Omega.{arith}
-use lib.Dec.{eqb, leb, ltb}
+use lib.Dec.{eqb, leb}
 use lib.IntN.{ℤ}
 use lib.ListN.{length, take, drop}
 use lib.Seq.{sets, take-at}
-use borrow.Author.Tests.{eqb-true, leb-true, leb-false, le-leb, lt-leb, ltb-false}
+use borrow.Author.Tests.{eqb-true, leb-true, leb-false, le-leb, lt-leb}
 use Rattle.codes.specs.Symbols.{Symbol, putting, first, first-left, first-right, refusalIn, refusal-putting}
 use Rattle.nal.specs.declared.ByteCount.{ByteCount}
 use Rattle.nal.specs.declared.ByteCount.the-variants.{Bytes, Refused}
 use Rattle.nal.specs.Answers.{outAfter}
-use Rattle.tables.specs.Tables.{over, sets-over, sets-none}
-use Rattle.bit_writer.specs.Answers.{answered, answerOf, writtenAnswer, writtenOut, answer-is, out-kept, out-written}
+use Rattle.tables.specs.Tables.{over, sets-over}
+use Rattle.bit_writer.specs.Answers.{answered, answerOf, writtenAnswer, writtenOut, answer-is, fits, out-kept, out-written}
 use Rattle.bit_writer.specs.Closing.{Ran, plain-ran, nal-ran}
 use Rattle.bit_writer.specs.Writing.{Writing, putRaw, putRaws, finished, trailingBits, play, closed}
 use Rattle.pps_lent.specs.Tables.{lent}
@@ -64,33 +64,9 @@ unfolding begun
 whole-ran true s bs o h e = nal-ran 0x00 0x81 o (setSymbols s bs) h refl e
 whole-ran false s bs o h e = plain-ran false o (setSymbols s bs) h refl e
 
-accepted-none : (k n : ℕ) (bytes out : List ℕ) → writtenAnswer k bytes out ≡ Bytes n → k ≡ 0
-unfolding writtenAnswer answered
-accepted-none k n bytes out = split (eqb k 0) refl
-  where
-    split : (t : Bool) → eqb k 0 ≡ t → cond t (cond (ltb (length out) (length bytes)) (Refused 29) (Bytes (length bytes))) (Refused k) ≡ Bytes n → k ≡ 0
-    split true e q = eqb-true k 0 e
-    split false e q = let z : _≡_ {A = ℕ} 0 1 = cc in absurd (omega arith)
-
 answer-5 : (bytes out : List ℕ) → Refused 5 ≡ writtenAnswer 5 bytes out
 unfolding writtenAnswer answered
 answer-5 bytes out = refl
-
--- an accepted number of bytes is theirs, and they fit
-accepted-count : (k n : ℕ) (bytes out : List ℕ) → writtenAnswer k bytes out ≡ Bytes n → (n ≡ length bytes) × (length bytes ≤ length out)
-unfolding writtenAnswer answered
-accepted-count k n bytes out = split (eqb k 0) refl (ltb (length out) (length bytes)) refl
-  where
-    split : (t : Bool) → eqb k 0 ≡ t → (u : Bool) → ltb (length out) (length bytes) ≡ u → cond t (cond u (Refused 29) (Bytes (length bytes))) (Refused k) ≡ Bytes n
-        → (n ≡ length bytes) × (length bytes ≤ length out)
-    split true e true f q = let z : _≡_ {A = ℕ} 0 1 = cc in absurd (omega arith)
-    split true e false f q = (cc, ltb-false (length out) (length bytes) f)
-    split false e u f q = let z : _≡_ {A = ℕ} 0 1 = cc in absurd (omega arith)
-
--- what a run over any bytes says of an output
-own-answer : (w : Writing) (k : ℕ) (bytes out o : List ℕ) → Ran w k bytes o → length out < 2 ^ 63 → answerOf (w .sink) (length out) ≡ writtenAnswer k bytes out
-own-answer w k bytes out o a h =
-    answer-is (record { sink = w .sink; out = [] }) k bytes out (record { refused = a .refused; count = a .count; written = sym (sets-none bytes 0) }) h
 
 front-is : (xs o : List ℕ) (n : ℕ) → n ≡ length xs → length xs ≤ length o → take n (sets o 0 xs) ≡ xs
 unfolding over
@@ -127,7 +103,7 @@ module _ (nal : Bool) (r : VvcPps) (t : Lent) (bytes : List ℕ) where
     own-said e = e ∙ split (eqb inSet 0) refl
       where
         split : (b : Bool) → eqb inSet 0 ≡ b → answerOf (first .sink) (length out) ≡ writtenAnswer inSet (writeBytes nal r t bytes) out
-        split true q = own-answer first inSet (writeBytes nal r t bytes) out o (run-whole o room ran (eqb-true inSet 0 q)) small
+        split true q = answer-is first inSet (writeBytes nal r t bytes) out o (run-whole o room ran (eqb-true inSet 0 q)) small
         split false q = rw (run-refused o ran, q)
 
     pub own-refused : {answer : ByteCount} (n : ℕ) → answer ≡ answerOf (first .sink) (length out) → answer ≡ Refused n
@@ -138,10 +114,10 @@ module _ (nal : Bool) (r : VvcPps) (t : Lent) (bytes : List ℕ) where
         → (Bytes n ≡ writtenAnswer inSet (writeBytes nal r t bytes) out) × (second .out ≡ writtenOut inSet (writeBytes nal r t bytes) out)
     own-again n {second} e d w =
         let b : writtenAnswer inSet (writeBytes nal r t bytes) out ≡ Bytes n = sym (own-said e) ∙ d in
-        (sym b, out-written second inSet n (writeBytes nal r t bytes) out b (run-whole out (omega arith) w (accepted-none inSet n (writeBytes nal r t bytes) out b)))
+        (sym b, out-written second inSet n (writeBytes nal r t bytes) out b (run-whole out (omega arith) w (fits inSet n (writeBytes nal r t bytes) out b .0)))
 
     pub own-fits : {answer : ByteCount} (n : ℕ) → answer ≡ answerOf (first .sink) (length out) → answer ≡ Bytes n → n ≤ length out
-    own-fits n e d = let k = accepted-count inSet n (writeBytes nal r t bytes) out (sym (own-said e) ∙ d) in omega (arith, k .0, k .1)
+    own-fits n e d = let k = fits inSet n (writeBytes nal r t bytes) out (sym (own-said e) ∙ d) in omega (arith, k .1, k .2)
 
     -- the first n of its bytes, copied
     pub own-copied : {answer : ByteCount} (n : ℕ) {left : List ℕ} → answer ≡ answerOf (first .sink) (length out) → answer ≡ Bytes n → n ≤ length o
@@ -150,9 +126,9 @@ module _ (nal : Bool) (r : VvcPps) (t : Lent) (bytes : List ℕ) where
     own-copied n {left} e d h f =
         let wb = writeBytes nal r t bytes in
         let b : writtenAnswer inSet wb out ≡ Bytes n = sym (own-said e) ∙ d in
-        let k = accepted-count inSet n wb out b in
-        let w = run-whole o room ran (accepted-none inSet n wb out b) in
-        let front : take n (first .out) ≡ wb = ap (take n) (w .written) ∙ front-is wb o n (k .0) (omega (arith, k .0)) in
+        let k = fits inSet n wb out b in
+        let w = run-whole o room ran (k .0) in
+        let front : take n (first .out) ≡ wb = ap (take n) (w .written) ∙ front-is wb o n (k .1) (omega (arith, k .1)) in
         (sym b, f ∙ ap (λ (l : List ℕ). take (length l) l ++ drop (length l) out) front ∙ over-is wb out ∙ out-over inSet n wb out b)
 
   -- ---- behind the test of what is lent

@@ -23,8 +23,9 @@ fn bits_inside(first: usize, count: usize, len: usize) -> bool
     first / 8 + count / 8 + (first % 8 + count % 8 + 7) / 8 <= len
 }
 
-// A run over 1,024 bytes of its own finds any refusal and counts the bytes. What fits there is copied; more is put by a second run.
-fn write_twice(
+// A run over bytes of its own finds any refusal and counts the bytes, so that a refused write changes nothing. What fits there is copied;
+// a longer set is put by a second run.
+fn write_counted(
     nal: bool,
     pps: VvcPps,
     subpic_ids: &[u32],
@@ -129,7 +130,7 @@ fn write_set(
     let inside = (count == 0)
         | bits_inside(pps.pps_extension_data_first_bit, count, extension.len());
     if fits & inside {
-        return write_twice(
+        return write_counted(
             nal,
             pps,
             subpic_ids,

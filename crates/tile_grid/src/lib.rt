@@ -1,10 +1,9 @@
 // The tile grid of a partitioned picture (H.266 6.5.1, 7.4.3.5), and the questions on grid, plan and cover over a record (docs/BEHAVIOUR.md).
 ghost use mathlib.Core.Path.{_≡_};
 ghost use Prim.Native.Nat.{_≤_, min};
-ghost use lib.Dec.{ltb};
 ghost use lib.ListN.{take};
 ghost use Rattle.partition.specs.Sizes.{axisSizes};
-ghost use Rattle.partition.specs.Grid.{maxTileColumns, maxTiles, maxSlicesMinus1};
+ghost use Rattle.partition.specs.Grid.{maxTileColumns, maxTiles};
 ghost use Rattle.partition.specs.Partition.{Layout};
 ghost use Rattle.pps_syntax.specs.BlockRefusal.{declinedWith};
 ghost use Rattle.pps_syntax.specs.SliceTables.{sliceTables};
@@ -30,7 +29,6 @@ use sizes::explicit_refusal;
 use sizes::in_ctbs;
 use sizes::sizes_into;
 use slice_loop::CtbCount;
-use slice_loop::SliceIdx;
 use slice_loop::TileIdx;
 use slice_plan::PlacedIn;
 use slice_plan::none_placed;
@@ -46,7 +44,7 @@ pub struct TileGrid {
     pub row_heights: [u32; 990],
 }
 
-// A refusal, or 0 and the grid, which stands first: a copy of 4 KB by 4 bytes off a multiple of 4,096 takes 1.1 µs, and 0.05 else.
+// A refusal, or 0 and the grid. The grid stands first: behind a byte its 4 KB would start 4 bytes in, and a copy of them take 20 times as long.
 pub struct GridAnswer {
     pub grid: TileGrid,
     pub refused: u8,
@@ -183,13 +181,6 @@ impl TileGrid {
     pub const MAX_TILES: u32 = 990;
 
     pub const MAX_NUM_SLICES_MINUS1: u32 = 999;
-
-    // pps_num_slices_in_pic_minus1 over its limit (14).
-    pub fn too_many_slices(num_slices_minus1: SliceIdx) -> bool
-        ensures { λ r. ⌜ r ≡ ltb maxSlicesMinus1 («num_slices_minus1» .0) ⌝ }
-    {
-        num_slices_minus1.0 > Self::MAX_NUM_SLICES_MINUS1
-    }
 
     // The grid of a picture of so many luma samples, from its explicit tile sizes (minus 1); or 9, 10, 11, 12 or 13.
     pub fn new(

@@ -12,7 +12,7 @@ same-length c = search needs
 returns : tie.Need-returns
 returns c =
     let t = (lent (now (c .before .before .before .before .before .before .before .before .before .before .before .before .before .before .before .before .before .before .args .subpic-ids)) (now (c .before .before .before .before .before .before .before .before .before .before .before .before .before .before .before .before .before .before .args .tile-column-widths)) (now (c .before .before .before .before .before .before .before .before .before .before .before .before .before .before .before .before .before .before .args .tile-row-heights)) (sliceTables (now (c .before .before .before .before .before .before .before .before .before .before .before .before .before .before .before .before .before .before .args .widths)) (now (c .before .before .before .before .before .before .before .before .before .before .before .before .before .before .before .before .before .before .args .heights)) (now (c .before .before .before .before .before .before .before .before .before .before .before .before .before .before .before .before .before .before .args .split-present)) (now (c .before .before .before .before .before .before .before .before .before .before .before .before .before .before .before .before .before .before .args .split-counts)) (now (c .before .before .before .before .before .before .before .before .before .before .before .before .before .before .before .before .before .before .args .delta-present)) (now (c .before .before .before .before .before .before .before .before .before .before .before .before .before .before .before .before .before .before .args .deltas)) (now (c .before .before .before .before .before .before .before .before .before .before .before .before .before .before .before .before .before .before .args .split-heights))) (c .before .before .before .before .before .before .before .before .before .before .before .before .before .before .before .before .before .before .args .triples)) in
-    lent-well (c .before .before .before .before .before .before .before .before .before .before .before .before .before .before .before .before .before .before .args .nal) (c .before .before .before .before .before .before .before .before .before .before .before .before .before .before .before .before .before .before .args .pps) t (now (c .before .before .before .before .before .before .before .before .before .before .before .before .before .before .before .before .before .before .args .extension)) (now (c .before .before .before .before .before .before .before .before .before .before .before .before .before .before .before .before .before .before .args .out)) (without-triples (c .before .before .before .before .before .before .before .before .before .before .before .before .before .before .before .before .before .before .args .pps) (now (c .before .before .before .before .before .before .before .before .before .before .before .before .before .before .before .before .before .before .args .subpic-ids)) (now (c .before .before .before .before .before .before .before .before .before .before .before .before .before .before .before .before .before .before .args .tile-column-widths)) (now (c .before .before .before .before .before .before .before .before .before .before .before .before .before .before .before .before .before .before .args .tile-row-heights)) (sliceTables (now (c .before .before .before .before .before .before .before .before .before .before .before .before .before .before .before .before .before .before .args .widths)) (now (c .before .before .before .before .before .before .before .before .before .before .before .before .before .before .before .before .before .before .args .heights)) (now (c .before .before .before .before .before .before .before .before .before .before .before .before .before .before .before .before .before .before .args .split-present)) (now (c .before .before .before .before .before .before .before .before .before .before .before .before .before .before .before .before .before .before .args .split-counts)) (now (c .before .before .before .before .before .before .before .before .before .before .before .before .before .before .before .before .before .before .args .delta-present)) (now (c .before .before .before .before .before .before .before .before .before .before .before .before .before .before .before .before .before .before .args .deltas)) (now (c .before .before .before .before .before .before .before .before .before .before .before .before .before .before .before .before .before .before .args .split-heights))) (c .before .before .before .before .before .before .before .before .before .before .before .before .before .before .before .before .before .before .args .triples) (c .before .before .before .before .before .before .lent-fits .ensures)) (extension-inside (c .before .before .before .before .before .before .before .before .before .before .before .before .before .before .before .before .before .before .args .pps) (now (c .before .before .before .before .before .before .before .before .before .before .before .before .before .before .before .before .before .before .args .extension)) (c .before .before .before .before .before .bits-inside .ensures)) (c .before .before .before .before .if1 .taken) (c .before .before .write-twice .ensures)
+    lent-well (c .before .before .before .before .before .before .before .before .before .before .before .before .before .before .before .before .before .before .args .nal) (c .before .before .before .before .before .before .before .before .before .before .before .before .before .before .before .before .before .before .args .pps) t (now (c .before .before .before .before .before .before .before .before .before .before .before .before .before .before .before .before .before .before .args .extension)) (now (c .before .before .before .before .before .before .before .before .before .before .before .before .before .before .before .before .before .before .args .out)) (without-triples (c .before .before .before .before .before .before .before .before .before .before .before .before .before .before .before .before .before .before .args .pps) (now (c .before .before .before .before .before .before .before .before .before .before .before .before .before .before .before .before .before .before .args .subpic-ids)) (now (c .before .before .before .before .before .before .before .before .before .before .before .before .before .before .before .before .before .before .args .tile-column-widths)) (now (c .before .before .before .before .before .before .before .before .before .before .before .before .before .before .before .before .before .before .args .tile-row-heights)) (sliceTables (now (c .before .before .before .before .before .before .before .before .before .before .before .before .before .before .before .before .before .before .args .widths)) (now (c .before .before .before .before .before .before .before .before .before .before .before .before .before .before .before .before .before .before .args .heights)) (now (c .before .before .before .before .before .before .before .before .before .before .before .before .before .before .before .before .before .before .args .split-present)) (now (c .before .before .before .before .before .before .before .before .before .before .before .before .before .before .before .before .before .before .args .split-counts)) (now (c .before .before .before .before .before .before .before .before .before .before .before .before .before .before .before .before .before .before .args .delta-present)) (now (c .before .before .before .before .before .before .before .before .before .before .before .before .before .before .before .before .before .before .args .deltas)) (now (c .before .before .before .before .before .before .before .before .before .before .before .before .before .before .before .before .before .before .args .split-heights))) (c .before .before .before .before .before .before .before .before .before .before .before .before .before .before .before .before .before .before .args .triples) (c .before .before .before .before .before .before .lent-fits .ensures)) (extension-inside (c .before .before .before .before .before .before .before .before .before .before .before .before .before .before .before .before .before .before .args .pps) (now (c .before .before .before .before .before .before .before .before .before .before .before .before .before .before .before .before .before .before .args .extension)) (c .before .before .before .before .before .bits-inside .ensures)) (c .before .before .before .before .if1 .taken) (c .before .before .write-counted .ensures)
 
 returns-2 : tie.Need-returns-2
 returns-2 c =
