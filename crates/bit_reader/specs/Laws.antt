@@ -1,6 +1,6 @@
 -- Laws of the readers' definitions: each way that a reader comes to its answer.
-use Prim.Native.Nat.{ℕ, zero, suc, _+_, _-_, _*_, _/_, _%_, _^_, _≤_, _<_, min, max}
-use mathlib.Core.Path.{_≡_, refl, sym, ap, ap₂, _∙_}
+use Prim.Native.Nat.{ℕ, zero, suc, _+_, _-_, _*_, _/_, _%_, _^_, _≤_, _<_}
+use mathlib.Core.Path.{_≡_, refl, sym, ap, _∙_}
 use mathlib.Core.List.{List}
 use mathlib.Core.Bool.{Bool, true, false, cond}
 use native.Mathlib.Omega.{arith}
@@ -59,10 +59,6 @@ onward-is s at n h = omega arith
 pub onward-past : (s : List ℕ) (at n : ℕ) → bitCount s ≤ at → onward s at n ≡ at
 unfolding onward
 onward-past s at n h = omega arith
-
-pub onward-end : (s : List ℕ) (at n : ℕ) → at ≤ bitCount s → bitCount s ≤ at + n → onward s at n ≡ bitCount s
-unfolding onward
-onward-end s at n h l = omega arith
 
 -- ---- u(n)
 pub u-made : (s : List ℕ) (c : Cursor) (n v p : ℕ) → c .refused ≡ 0 → v ≡ bitsAt s (c .at) n → p ≡ onward s (c .at) n

@@ -1,6 +1,6 @@
 -- Codes read back: where the bytes hold the code of a value, the reader gives that value and moves by the code's length, whatever follows.
 use Prim.Native.Nat.{ℕ, zero, suc, _+_, _-_, _*_, _^_, _≤_, _<_}
-use mathlib.Core.Path.{_≡_, refl, sym, ap, ap₂, subst, _∙_}
+use mathlib.Core.Path.{_≡_, refl, sym, ap, subst, _∙_}
 use mathlib.Core.List.{List}
 use mathlib.Core.Bool.{true}
 use native.Mathlib.Nat.{add-zero, add-suc, suc-add, zero-mul, suc-mul, mod-eq-of-lt}
@@ -13,7 +13,6 @@ use Rattle.codes.specs.Bytes.{bitCount, bitAt, bitsAt, bit-lt, bits-lt, bits-ap
 use Rattle.codes.specs.Holds.{Holds, holds-number}
 use Rattle.codes.specs.ExpGolomb.{floorLog2, log2-between, log2-below, ueCode, ue-code-number, signedOf, codeNum, signed-code, seCode}
 use Rattle.bit_reader.specs.declared.BitsRead.{BitsRead}
-use Rattle.bit_reader.specs.declared.SignedRead.{SignedRead}
 use Rattle.bit_reader.specs.Reading.{cursorAt, uRead, stops, zerosAt, ueWithin, ueRead, seRead}
 use Rattle.bit_reader.specs.Laws.{onward-is, u-made, zeros-none, zeros-more, stops-one, stops-not, ue-made, ue-is}
 

@@ -5,17 +5,14 @@ use mathlib.Core.List.{List}
 use mathlib.Core.Bool.{Bool, true, false}
 use native.Mathlib.Nat.{add-zero, zero-add, zero-mul, one-mul, pow-suc}
 use native.Mathlib.Omega.{arith}
-use lib.Dec.{ltb, eqb}
-use lib.IntN.{ℤ}
-use lib.Pow.{pow-pos, pow-mono}
+use lib.Dec.{ltb}
+use lib.Pow.{pow-pos}
 use borrow.Author.Tests.{eqb-true, eqb-false, ltb-true}
 use Rattle.codes.specs.Bits.{toBits}
 use Rattle.codes.specs.Bytes.{bitCount, bitAt, bitsAt, bit-lt, bits-none, bits-lt, bits-append, bits-first}
 use Rattle.codes.specs.Holds.{Holds, holds-bits}
-use Rattle.codes.specs.ExpGolomb.{ueCode, ue-code-number, signedOf, codeNum, code-signed, seCode}
+use Rattle.codes.specs.ExpGolomb.{ueCode, ue-code-number, codeNum, code-signed, seCode}
 use Rattle.bit_reader.specs.declared.Cursor.{Cursor}
-use Rattle.bit_reader.specs.declared.BitsRead.{BitsRead}
-use Rattle.bit_reader.specs.declared.SignedRead.{SignedRead}
 use Rattle.bit_reader.specs.Reading.{cursorAt, refusal, onward, uRead, stops, zerosAt, ueAfter, ueWithin, ueRead, seRead}
 use Rattle.bit_reader.specs.Laws.{open-reads, going-on, onward-in, onward-is, zeros-none, zeros-more, stops-in, ue-is, ue-small}
 

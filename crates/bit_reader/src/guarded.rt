@@ -1,7 +1,6 @@
 // Forms for groups of fields: a test, and a part that is coded only under a condition.
 ghost use mathlib.Core.Path.{_≡_};
-ghost use Prim.Native.Nat.{min};
-ghost use Rattle.bit_reader.specs.Reading.{uRead, byteRead, ueRead, seRead, demanded, byteOr, bitsOr, signedOr};
+ghost use Rattle.bit_reader.specs.Reading.{byteRead, ueRead, seRead, demanded, byteOr, bitsOr, signedOr};
 use super::BitsRead;
 use super::ByteRead;
 use super::Cursor;
@@ -37,22 +36,6 @@ pub fn flag_or(s: &[u8], on: bool, inferred: u8, c: Cursor) -> ByteRead
         return super::flag(s, c);
     }
     ByteRead {
-        value: inferred,
-        next: Cursor {
-            at: c.at,
-            refused: c.refused,
-        },
-    }
-}
-
-// u(n) that is coded only where `on`.
-pub fn u_or(s: &[u8], on: bool, n: u32, inferred: u32, c: Cursor) -> BitsRead
-    ensures { λ r. ⌜ r ≡ bitsOr on (uRead (now (s .entry)) c (min n 32)) inferred c ⌝ }
-{
-    if on {
-        return super::u(s, c, n);
-    }
-    BitsRead {
         value: inferred,
         next: Cursor {
             at: c.at,

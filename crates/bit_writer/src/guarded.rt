@@ -1,8 +1,6 @@
 // Forms for groups of fields: a part that is written only under a condition.
 ghost use mathlib.Core.Path.{_≡_};
 ghost use mathlib.Core.List.{[], _∷_};
-ghost use Prim.Native.Nat.{min};
-ghost use Rattle.codes.specs.Bits.{toBits};
 ghost use Rattle.codes.specs.Symbols.{putting};
 ghost use Rattle.bit_writer.specs.Writing.{sinkOver, play};
 ghost use Rattle.codes.specs.Coded.{flagBit, ueSymbols, seSymbols, onlyIf};
@@ -13,22 +11,6 @@ pub fn put_flag_if(w: Sink, out: &mut [u8], on: bool, v: u8) -> Sink
 {
     if on {
         return super::put_flag(w, out, v);
-    }
-    Sink {
-        escape: w.escape,
-        zeros: w.zeros,
-        put: w.put,
-        cur: w.cur,
-        have: w.have,
-        refused: w.refused,
-    }
-}
-
-pub fn put_bits_if(w: Sink, out: &mut [u8], on: bool, value: u32, n: u32) -> Sink
-    ensures { λ r. ⌜ sinkOver r (now (out .exit)) ≡ play (sinkOver w (now (out .entry))) (onlyIf on (putting (toBits (min n 32) value))) ⌝ }
-{
-    if on {
-        return super::put_bits(w, out, value, n);
     }
     Sink {
         escape: w.escape,

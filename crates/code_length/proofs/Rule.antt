@@ -1,6 +1,6 @@
 -- The length rule by the leading zeros of v + 1 in 32 bits, and as a test of a table's entry.
-use Prim.Native.Nat.{ℕ, suc, _+_, _-_, _*_, _^_, _≤_, _<_}
-use mathlib.Core.Path.{_≡_, sym}
+use Prim.Native.Nat.{ℕ, _+_, _-_, _*_, _≤_, _<_}
+use mathlib.Core.Path.{_≡_}
 use mathlib.Core.Bool.{Bool}
 use native.Mathlib.Omega.{arith}
 use lib.Count.{leadingZeros, leading-top}

@@ -1,6 +1,6 @@
 // How many bits the ue(v) code of a value takes (H.266 9.2).
 ghost use mathlib.Core.Path.{_≡_};
-ghost use Prim.Native.Nat.{_<_, _≤_};
+ghost use Prim.Native.Nat.{_<_};
 ghost use Rattle.codes.specs.ExpGolomb.{ueLength};
 ghost use Rattle.code_length.specs.UeSize.{ueSizeOf};
 

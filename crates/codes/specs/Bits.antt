@@ -1,11 +1,11 @@
 -- Numbers and the bits that spell them, high bit first: u(n) of H.266 7.2 as it is written.
-use Prim.Native.Nat.{ℕ, zero, suc, _+_, _*_, _/_, _%_, _^_, _≤_, _<_}
+use Prim.Native.Nat.{ℕ, zero, suc, _+_, _*_, _/_, _%_, _^_, _<_}
 use mathlib.Core.Path.{_≡_, refl, sym, ap, ap₂, _∙_}
 use mathlib.Core.List.{List, [], _∷_, _++_}
-use native.Mathlib.Nat.{zero-mul, zero-add, mod-one, zero-div, zero-mod, suc-add}
+use native.Mathlib.Nat.{zero-add, mod-one, zero-div, suc-add}
 use native.Mathlib.Numerals.{one-add}
 use native.Mathlib.Omega.{arith}
-use lib.ListN.{length, replicate, getD}
+use lib.ListN.{length, replicate}
 use lib.Pow.{mod-pow-add, field, mod-mod-pow, shr-shr}
 
 -- the n low bits of v
@@ -54,12 +54,6 @@ unfolding toBits
 toBits-zero zero = refl
 toBits-zero (suc n) = ap₂ (λ (b : ℕ) (l : List ℕ). b ∷ l) (ap (λ (x : ℕ). x % 2) (zero-div (2 ^ n))) (toBits-zero n)
 
--- zeros in front spell nothing
-pub number-zeros : (k : ℕ) (l : List ℕ) → number (replicate k 0 ++ l) ≡ number l
-unfolding number
-number-zeros zero l = refl
-number-zeros (suc k) l = rw (zero-mul, zero-add) (number-zeros k l)
-
 -- a list of bits holds nothing but 0 and 1
 abbrev pub Binary : List ℕ → Type 0
 Binary [] = Unit {0}
@@ -77,8 +71,3 @@ binary-toBits (suc n) v = (omega arith, binary-toBits n v)
 pub binary-zeros : (k : ℕ) → Binary (replicate k 0)
 binary-zeros zero = tt
 binary-zeros (suc k) = (omega arith, binary-zeros k)
-
-pub binary-at : (l : List ℕ) (k : ℕ) → Binary l → getD l k 0 % 2 ≡ getD l k 0
-binary-at [] k p = refl
-binary-at (b ∷ l) zero p = omega arith
-binary-at (b ∷ l) (suc k) p = binary-at l k (p .1)

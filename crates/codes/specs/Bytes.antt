@@ -9,7 +9,7 @@ use native.Mathlib.Omega.{arith}
 use lib.Dec.{ltb}
 use lib.ListN.{length, getD}
 use lib.Pow.{high, low}
-use borrow.Author.Tests.{lt-ltb, le-ltb, ltb-true, ltb-false}
+use borrow.Author.Tests.{lt-ltb, le-ltb}
 use Rattle.codes.specs.Bits.{toBits, toBits-mod, number}
 
 -- the number of bits that can be read. The bound, which no byte string reaches, keeps every position below 2^64
@@ -46,14 +46,6 @@ bit-lt s k = split (ltb k (bitCount s))
     split : (t : Bool) → cond t (getD s (k / 8) 0 / 2 ^ (7 - k % 8) % 2) 0 < 2
     split true = omega arith
     split false = omega arith
-
--- a 1 bit is inside
-pub one-inside : (s : List ℕ) (k : ℕ) → bitAt s k ≡ 1 → k < bitCount s
-one-inside s k e = split (ltb k (bitCount s)) refl
-  where
-    split : (t : Bool) → ltb k (bitCount s) ≡ t → k < bitCount s
-    split true h = ltb-true k (bitCount s) h
-    split false h = absurd (omega (arith, e, bit-past s k (ltb-false k (bitCount s) h)))
 
 -- ---- runs of bits
 pub bits-none : (s : List ℕ) (at : ℕ) → bitsAt s at 0 ≡ 0

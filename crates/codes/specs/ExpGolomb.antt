@@ -1,15 +1,15 @@
 -- The Exp-Golomb codes ue(v) and se(v) of H.266 9.2, of any width, as lists of bits.
 use Prim.Native.Nat.{ℕ, zero, suc, _+_, _-_, _*_, _/_, _%_, _^_, _≤_, _<_}
-use mathlib.Core.Path.{_≡_, refl, sym, ap, ap₂, _∙_}
-use mathlib.Core.List.{List, [], _∷_, _++_}
+use mathlib.Core.Path.{_≡_, refl, sym, ap, _∙_}
+use mathlib.Core.List.{List, _++_}
 use mathlib.Core.Bool.{Bool, true, false, cond}
-use native.Mathlib.Nat.{pow-suc, div-eq-of-lt, mod-eq-of-lt, one-mul}
+use native.Mathlib.Nat.{pow-suc, div-eq-of-lt}
 use native.Mathlib.Omega.{arith}
 use lib.Dec.{ltb, eqb}
 use lib.IntN.{ℤ, pos, negsuc, negℤ}
 use lib.ListN.{length, replicate, length-append, length-replicate}
 use lib.Pow.{pow-pos, pow-mono}
-use borrow.Author.Tests.{lt-ltb, le-ltb, ltb-true, ltb-false, eqb-true, eqb-false, eq-eqb, ne-eqb}
+use borrow.Author.Tests.{lt-ltb, le-ltb, ltb-true, ltb-false, eqb-true, eqb-false}
 use Rattle.codes.specs.Bits.{toBits, toBits-length, toBits-append, toBits-zero, Binary, binary-append, binary-toBits, binary-zeros}
 
 -- how often n is halved until 1 is left, at most f times

@@ -1,15 +1,15 @@
 -- What a decoder makes of a list of bits that starts with a code, whatever follows: so no code is the front part of another.
 use Prim.Native.Nat.{ℕ, zero, suc, _+_, _-_, _*_, _/_, _%_, _^_, _≤_, _<_}
-use mathlib.Core.Path.{_≡_, refl, sym, ap, ap₂, _∙_}
+use mathlib.Core.Path.{_≡_, refl, sym, ap, _∙_}
 use mathlib.Core.List.{List, [], _∷_, _++_, append-assoc}
 use native.Mathlib.Nat.{mod-eq-of-lt, pow-suc, one-mul}
 use native.Mathlib.Omega.{arith}
 use lib.IntN.{ℤ}
-use lib.ListN.{length, replicate, take, drop, length-replicate}
+use lib.ListN.{replicate, take, drop, length-replicate}
 use lib.Seq.{take-at, drop-at}
 use lib.Pow.{high}
 use Rattle.codes.specs.Bits.{toBits, toBits-length, number, number-toBits}
-use Rattle.codes.specs.ExpGolomb.{floorLog2, log2-between, ueCode, ueLength, ue-code-length, signedOf, codeNum, signed-code, seCode}
+use Rattle.codes.specs.ExpGolomb.{floorLog2, log2-between, ueCode, signedOf, codeNum, signed-code, seCode}
 
 -- leadingZeroBits of 9.2: the zeros in front of the first 1
 unfoldable pub leadingZeroBits : List ℕ → ℕ

@@ -2,7 +2,7 @@
 use Prim.Native.Nat.{ℕ, _<_}
 use mathlib.Core.Bool.{Bool, true, false, cond}
 use mathlib.Core.List.{List, [], _∷_, _++_, map}
-use mathlib.Core.Path.{_≡_, refl, sym, ap, ap₂, _∙_}
+use mathlib.Core.Path.{_≡_, refl, sym, ap, _∙_}
 use native.Mathlib.Omega.{arith}
 use lib.Dec.{eqb}
 use borrow.Author.Tests.{eqb-true, eqb-false, eq-eqb, ne-eqb}
@@ -84,10 +84,6 @@ unfolding bitsIn
 bits-in-append [] ys = refl
 bits-in-append (bit b ∷ xs) ys = ap (λ (l : List ℕ). b ∷ l) (bits-in-append xs ys)
 bits-in-append (refuse n ∷ xs) ys = bits-in-append xs ys
-
-pub putting-append : (xs ys : List ℕ) → putting (xs ++ ys) ≡ putting xs ++ putting ys
-putting-append [] ys = refl
-putting-append (x ∷ xs) ys = ap (λ (l : List Symbol). bit x ∷ l) (putting-append xs ys)
 
 pub refusal-putting : (bs : List ℕ) → refusalIn (putting bs) ≡ 0
 unfolding refusalIn

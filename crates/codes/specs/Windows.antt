@@ -1,13 +1,13 @@
 -- A number of several bits, and the bits inside it: bytes, fields of a byte, windows.
 use Prim.Native.Nat.{ℕ, zero, suc, _+_, _-_, _*_, _/_, _%_, _^_, _≤_, _<_}
-use mathlib.Core.Path.{_≡_, refl, sym, ap, ap₂, _∙_}
+use mathlib.Core.Path.{_≡_, sym, ap, ap₂, _∙_}
 use mathlib.Core.List.{List}
 use native.Mathlib.Nat.{div-eq-of-lt, div-one}
 use native.Mathlib.Numerals.{add-one}
 use native.Mathlib.Omega.{arith}
 use lib.ListN.{length, getD}
 use lib.Pow.{high, low, shr-shr}
-use Rattle.codes.specs.Bytes.{bitCount, bitAt, bitsAt, bit-in, bits-none, bits-step, bits-lt, bits-append}
+use Rattle.codes.specs.Bytes.{bitAt, bitsAt, bit-in, bits-none, bits-step, bits-lt, bits-append}
 
 -- the high bits of a window
 pub bits-high : (s : List ℕ) (at n t : ℕ) → bitsAt s at (n + t) / 2 ^ t ≡ bitsAt s at n

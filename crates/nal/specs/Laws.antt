@@ -134,25 +134,6 @@ unfolding escapeFrom escapeBytes runAfter
 escapeFrom-append z [] ys = refl
 escapeFrom-append z (x ∷ xs) ys = rw (escapeFrom-append (escapeRun z x) xs ys, append-assoc)
 
-pub escapeBytes-append : (z : ℕ) (xs ys : List ℕ) → escapeBytes z (xs ++ ys) ≡ escapeBytes z xs ++ escapeBytes (runAfter z xs) ys
-unfolding escapeBytes runAfter
-escapeBytes-append z [] ys = refl
-escapeBytes-append z (x ∷ xs) ys = rw (escapeBytes-append (escapeRun z x) xs ys, append-assoc)
-
-pub runAfter-append : (z : ℕ) (xs ys : List ℕ) → runAfter z (xs ++ ys) ≡ runAfter (runAfter z xs) ys
-unfolding runAfter
-runAfter-append z [] ys = refl
-runAfter-append z (x ∷ xs) ys = runAfter-append (escapeRun z x) xs ys
-
--- one byte more
-pub escapeBytes-one : (z : ℕ) (xs : List ℕ) (b : ℕ) → escapeBytes z (xs ++ (b ∷ [])) ≡ escapeBytes z xs ++ escapeByte (runAfter z xs) b
-unfolding escapeBytes
-escapeBytes-one z xs b = rw (escapeBytes-append z xs (b ∷ []), append-nil)
-
-pub runAfter-one : (z : ℕ) (xs : List ℕ) (b : ℕ) → runAfter z (xs ++ (b ∷ [])) ≡ escapeRun (runAfter z xs) b
-unfolding runAfter
-runAfter-one z xs b = runAfter-append z xs (b ∷ [])
-
 -- the whole: what is put byte by byte, and the end
 pub escape-parts : (rbsp : List ℕ) → escape rbsp ≡ escapeBytes 0 rbsp ++ escapeEnd (runAfter 0 rbsp)
 unfolding escape

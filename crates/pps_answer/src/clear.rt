@@ -2,7 +2,6 @@
 ghost use mathlib.Core.Path.{_≡_};
 ghost use mathlib.Core.List.{[], _∷_};
 ghost use lib.IntN.{pos};
-ghost use lib.ListN.{length};
 ghost use Rattle.tables.specs.Tables.{blank};
 ghost use Rattle.pps_syntax.specs.SliceTables.{sliceTables};
 ghost use Rattle.pps_answer.specs.Lending.{lent, clearedSlices, cleared};

@@ -1,7 +1,6 @@
 // What reading answers.
 ghost use mathlib.Core.Path.{_≡_};
 ghost use Rattle.pps_answer.specs.Answers.{firstBit, answerFrom};
-use bit_reader::Cursor;
 use pps_parts::BackRead;
 use pps_parts::FrontRead;
 use pps_parts::end::EndRead;

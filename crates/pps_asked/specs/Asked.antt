@@ -130,13 +130,6 @@ module _ (nal : List ℕ) (workLength : ℕ) (t left : Lent) (pps : VvcPps) (tak
   pub unit-passes : firstBad (recordChecks pps (asked left)) ≡ fine
   unit-passes = let r = unit-read in ap₂ (λ (x : VvcPps) (y : Lent). firstBad (recordChecks x (asked y))) (r .gave) (r .kept) ∙ read-passes (rbspOf nal) (r .read) t (r .is) (r .long)
 
-  -- the record and the tables say the partition that was read
-  pub unit-partition : (a : ReadSet) → readRbsp (rbspOf nal) ≡ accepted a → partitionFrom (pps .partition) (asked left) ≡ a .set .partition
-  unit-partition a e =
-      let r = unit-read in
-      ap₂ (λ (x : VvcPps) (y : Lent). partitionFrom (x .partition) (asked y)) (r .gave) (r .kept) ∙ read-partition (rbspOf nal) (r .read) t (r .is) (r .long)
-      ∙ ap (λ (x : ReadSet). x .set .partition) (same-set (r .read) a (sym (r .is) ∙ e))
-
   -- The theorem: the questions answer from the layout of the partition that was read ..
   pub unit-layout : (a : ReadSet) → readRbsp (rbspOf nal) ≡ accepted a → layoutAsked pps (asked left) ≡ layoutRead a
   unit-layout a e =

@@ -8,17 +8,10 @@ use lib.Dec.{eqb}
 use borrow.Author.Tests.{eq-eqb, ne-eqb}
 use Rattle.bit_reader.specs.declared.Cursor.{Cursor}
 use Rattle.bit_reader.specs.Extension.{extensionBits}
-use Rattle.syntax.specs.Element.{Parsed}
 use Rattle.syntax.specs.Elements.{isSet}
-use Rattle.pps_syntax.specs.Pps.{Pps}
-use Rattle.pps_syntax.specs.Rbsp.{extensionFor}
 
 unfoldable pub extensionAt : List ℕ → ℕ → Cursor → ℕ
 extensionAt s flag c = cond (isSet flag && eqb (c .refused) 0) (extensionBits s (c .at)) 0
-
-pub extension-is : (s : List ℕ) (p : Parsed Pps) → extensionFor s p ≡ extensionAt s (p .value .back .pictureHeader .«pps_extension_flag») (p .next)
-unfolding extensionFor extensionAt
-extension-is s p = refl
 
 pub extension-unset : (s : List ℕ) (flag : ℕ) (c : Cursor) → flag ≡ 0 → 0 ≡ extensionAt s flag c
 unfolding extensionAt

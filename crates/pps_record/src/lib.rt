@@ -8,7 +8,6 @@ ghost use Rattle.pps_record.specs.Ctbs.{ctbsOf};
 
 pub mod groups;
 pub mod lengths;
-pub mod refusals;
 
 // pps_conf_win_offsets
 #[repr(C)]

@@ -1,6 +1,6 @@
 -- What is told of a unit: the number of its refusal, read into a work buffer of 65,536 bytes and tables of the stated lengths. What is printed beside it no contract can say.
 use Prim.Native.Nat.{ℕ}
-use mathlib.Core.Path.{_≡_, refl, sym, ap, _∙_}
+use mathlib.Core.Path.{_≡_, sym, ap, _∙_}
 use mathlib.Core.Bool.{true}
 use mathlib.Core.List.{List}
 use Rattle.pps_answer.specs.Answers.{answerOf}

@@ -1,7 +1,7 @@
 -- Small sets that are read, computed: one table, one theorem.
 use Prim.Native.Nat.{ℕ}
 use mathlib.Core.Path.{_≡_, refl}
-use mathlib.Core.List.{List, [], _∷_, _++_, map}
+use mathlib.Core.List.{List, [], _∷_, map}
 use mathlib.Core.Bool.{true}
 use Rattle.codes.specs.Bytes.{bitAt, bitsAt}
 use Rattle.codes.specs.ExpGolomb.{signedOf}
@@ -18,8 +18,8 @@ use Rattle.pps_syntax.specs.Deblocking.{deblocking}
 use Rattle.pps_syntax.specs.Head.{head, confWin, scalingWin, kind}
 use Rattle.pps_syntax.specs.PartitionSyntax.{partition}
 use Rattle.pps_syntax.specs.PictureHeader.{pictureHeader}
-use Rattle.pps_syntax.specs.Pps.{Pps, front, back, pps}
-use Rattle.pps_syntax.specs.Rbsp.{ReadSet, ReadAnswer, accepted, refused, extensionFor, answered, readRbsp, beforeFields, rbspOf, readNal}
+use Rattle.pps_syntax.specs.Pps.{front, back, pps}
+use Rattle.pps_syntax.specs.Rbsp.{ReadAnswer, accepted, refused, extensionFor, answered, readRbsp, beforeFields, rbspOf, readNal}
 use Rattle.pps_syntax.specs.References.{references}
 use Rattle.pps_syntax.specs.SliceSyntax.{rectSlices}
 use Rattle.pps_syntax.specs.SubpicIds.{subpicIds}

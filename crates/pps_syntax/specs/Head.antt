@@ -1,7 +1,7 @@
 -- The front of pic_parameter_set_rbsp() (H.266 7.3.2.5, 7.4.3.5): ids and picture size, the two windows, the kind of picture.
 use Prim.Native.Nat.{ℕ}
-use mathlib.Core.Path.{_≡_, refl}
-use mathlib.Core.Bool.{Bool, true, not, _&&_}
+use mathlib.Core.Path.{refl}
+use mathlib.Core.Bool.{Bool, not, _&&_}
 use lib.Dec.{eqb, lit<}
 use lib.IntN.{ℤ, pos}
 use Rattle.pps_record.specs.declared.groups.Head.{Head}

@@ -6,8 +6,6 @@ use mathlib.Core.Bool.{Bool, true, false, not, _&&_}
 use lib.Dec.{eqb, ltb, leb, lit<}
 use lib.ListN.{length}
 use borrow.Author.Tests.{ltb-true, eqb-true, le-ltb, lt-leb}
-use Rattle.bit_reader.specs.declared.Cursor.{Cursor}
-use Rattle.bit_reader.specs.Took.{Going}
 use Rattle.codes.specs.Symbols.{refusalIn, check}
 use Rattle.partition.specs.Accepted.{Accepted, without-slices, with-slices, walkOf}
 use Rattle.partition.specs.Checks.{AllPass, passed, pass-both}
@@ -18,7 +16,7 @@ use Rattle.partition.specs.Partition.{inCtbs, explicitChecks, axisChecks, gridC
 use Rattle.partition.specs.Sizes.{sum, explicitSizes, axisSizes}
 use Rattle.partition.specs.Walk.{placed}
 use Rattle.pps_syntax.specs.EntryAccepted.{all-below}
-use Rattle.pps_syntax.specs.PartitionSyntax.{PartitionBlock, some, coded, partition, partition-faithful, partitionOf}
+use Rattle.pps_syntax.specs.PartitionSyntax.{PartitionBlock, some, coded, partition, partitionOf}
 use Rattle.pps_syntax.specs.SameTests.{passes, not-within, twice, _⨟_}
 use Rattle.pps_syntax.specs.SliceSyntax.{RectSlice, entryOf}
 use Rattle.pps_syntax.specs.WalkAccepted.{slices-accepted}
@@ -26,8 +24,8 @@ use Rattle.syntax.specs.Element.{Element}
 use Rattle.syntax.specs.Elements.{u, flag, ue, flagIf, limited, absent, sameℕ, orElse, isSet, check-held}
 use Rattle.syntax.specs.Facts.{Facts, facts}
 use Rattle.syntax.specs.Lists.{none, not-true}
-use Rattle.syntax.specs.Round.{and-parts, refusal-parts, read-then-written}
-use Rattle.syntax.specs.Syntax.{_>>=_, parse, refusalFor, canonicalFor}
+use Rattle.syntax.specs.Round.{and-parts, refusal-parts}
+use Rattle.syntax.specs.Syntax.{_>>=_, refusalFor, canonicalFor}
 
 -- ---- from an element that was accepted to a check that passes
 -- a number up to a limit
@@ -129,9 +127,3 @@ laid-out W H r false e p = without-slices (rw (passed _ (checks-pass W H r false
 -- A block whose writing is refused nowhere and that reading could have given is accepted.
 pub block-accepted : (W H : ℕ) (r : PartitionBlock) → refusalFor (partition W H) r ≡ 0 → canonicalFor (partition W H) r ≡ true → Accepted (partitionOf W H r)
 block-accepted W H r h c = laid-out W H r (coded (r .«pps_rect_slice_flag») (r .«pps_single_slice_per_subpic_flag»)) (slices-coded W H r) (passing W H r h c)
-
--- So is every block that was read, with a bit left behind it.
-pub read-block-accepted : (W H : ℕ) (s : List ℕ) (c : Cursor) → Going s (parse (partition W H) s c .next) → Accepted (partitionOf W H (parse (partition W H) s c .value))
-read-block-accepted W H s c g =
-    let a = read-then-written (partition W H) (partition-faithful W H) s c g in
-    block-accepted W H (parse (partition W H) s c .value) (a .accepted) (a .given)

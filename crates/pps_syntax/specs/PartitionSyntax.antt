@@ -1,14 +1,14 @@
 -- The tile and slice partition block (H.266 7.3.2.5, 7.4.3.5) of a picture of W by H luma samples: one description, read and written.
-use Prim.Native.Nat.{ℕ, zero, suc, _+_, _-_, _/_, _≤_, _<_}
-use mathlib.Core.Path.{_≡_, refl, sym, ap, _∙_}
-use mathlib.Core.List.{List, [], _∷_, map}
-use mathlib.Core.Bool.{Bool, true, false, not, cond, _&&_, _||_}
+use Prim.Native.Nat.{ℕ, suc, _-_, _/_, _<_}
+use mathlib.Core.Path.{_≡_, refl}
+use mathlib.Core.List.{List, map}
+use mathlib.Core.Bool.{Bool, true, not, _&&_}
 use native.Mathlib.Omega.{arith}
 use lib.Dec.{eqb, ltb, leb, lit<}
 use lib.ListN.{length}
 use borrow.Author.Tests.{ne-eqb}
 use Rattle.partition.specs.Entry.{firstPosition}
-use Rattle.partition.specs.Grid.{Grid, tiles, maxTileColumns, maxTiles, maxSlicesMinus1}
+use Rattle.partition.specs.Grid.{tiles, maxTileColumns, maxTiles, maxSlicesMinus1}
 use Rattle.partition.specs.Partition.{Partition, inCtbs, tileGrid}
 use Rattle.partition.specs.Sizes.{sum, explicitSizes, axisSizes}
 use Rattle.pps_syntax.specs.SliceSyntax.{RectSlice, entryOf, rectSlices}

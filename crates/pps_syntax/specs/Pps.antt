@@ -19,7 +19,6 @@ use Rattle.pps_syntax.specs.References.{referencesElement}
 use Rattle.pps_syntax.specs.Chroma.{ChromaToolOffsets, chromaElement}
 use Rattle.pps_syntax.specs.Deblocking.{deblockingElement}
 use Rattle.pps_syntax.specs.PictureHeader.{pictureHeaderElement}
-use Rattle.syntax.specs.Element.{Element}
 use Rattle.syntax.specs.Elements.{presence, orElse, isSet}
 use Rattle.syntax.specs.Lists.{none, many}
 use Rattle.syntax.specs.Round.{structure}

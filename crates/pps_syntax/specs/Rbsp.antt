@@ -1,7 +1,7 @@
 -- Reading a picture parameter set: its RBSP (H.266 7.3.2.5, with the extension bits and rbsp_trailing_bits()), and the NAL unit around it.
 use Prim.Native.Nat.{ℕ, _+_, _-_, _/_}
 use mathlib.Core.List.{List}
-use mathlib.Core.Bool.{Bool, true, false, not, cond, _&&_}
+use mathlib.Core.Bool.{Bool, not, cond, _&&_}
 use lib.Dec.{eqb, ltb}
 use lib.ListN.{length, drop}
 use Rattle.codes.specs.Bytes.{bitsAt}

@@ -14,7 +14,7 @@ use Rattle.bit_reader.specs.Took.{Going}
 use Rattle.codes.specs.Bytes.{bitAt, bitList}
 use Rattle.codes.specs.Holds.{Holds, holds-append}
 use Rattle.pps_syntax.specs.Pps.{Pps, pps, pps-faithful}
-use Rattle.pps_syntax.specs.Rbsp.{ReadSet, accepted, refused, extensionFor, behindExtension, answered, readRbsp, beforeFields, rbspOf, readNal}
+use Rattle.pps_syntax.specs.Rbsp.{ReadSet, accepted, refused, extensionFor, behindExtension, answered, readRbsp}
 use Rattle.pps_syntax.specs.TrailingTaken.{Trailing, trailing-accepted, extension-last, holds-there}
 use Rattle.syntax.specs.Element.{Parsed, Consumed}
 use Rattle.syntax.specs.Elements.{isSet}
@@ -101,12 +101,3 @@ pub bytes-hold : (rbsp : List ℕ) (a : ReadSet) → ReadWhole rbsp a
 bytes-hold rbsp a w =
     let at : ℕ = fieldsRead rbsp .next .at in
     holds-append (w .fields .took .bits) (holds-append (holds-there rbsp at (a .extensionCount) (omega (arith, w .trailing .reaches, w .trailing .inside))) (w .trailing))
-
--- and so of a NAL unit's payload
-pub nal-accepted : (nal : List ℕ) (workLength : ℕ) (tablesLong : Bool) (a : ReadSet) → readNal nal workLength tablesLong ≡ accepted a → readRbsp (rbspOf nal) ≡ accepted a
-unfolding readNal
-nal-accepted nal workLength tablesLong a e = split (eqb (beforeFields nal workLength tablesLong) 0) e
-  where
-    split : (b : Bool) → cond b (readRbsp (rbspOf nal)) (refused (beforeFields nal workLength tablesLong)) ≡ accepted a → readRbsp (rbspOf nal) ≡ accepted a
-    split true z = z
-    split false z = absurd (refused-accepted (beforeFields nal workLength tablesLong) a z)

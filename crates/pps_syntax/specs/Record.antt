@@ -1,7 +1,7 @@
 -- A set as the record that C and Rust hold, with its lists in lent tables.
 use Prim.Native.Nat.{ℕ}
-use mathlib.Core.List.{List, [], _∷_, map}
-use lib.IntN.{ℤ, pos}
+use mathlib.Core.List.{List, [], _∷_}
+use lib.IntN.{ℤ}
 use lib.ListN.{length}
 use Rattle.pps_record.specs.declared.VvcPps.{VvcPps}
 use Rattle.pps_record.specs.declared.VvcPpsSubpicIdMapping.{VvcPpsSubpicIdMapping}

@@ -1,14 +1,14 @@
 -- One turn of the rectangular slice loop (H.266 7.3.2.5): one description, read and written. The tests stand in the order of the Rust's
 -- parse_pps and write_pps; a test of reading alone or of writing alone stands where only one of them makes it.
-use Prim.Native.Nat.{ℕ, zero, suc, _+_, _-_, _*_, _≤_, _<_}
+use Prim.Native.Nat.{ℕ, _+_, _-_, _<_}
 use mathlib.Core.Path.{_≡_, refl, sym}
 use mathlib.Core.List.{List, [], _∷_}
 use mathlib.Core.Bool.{Bool, true, false, not, cond, _&&_, _||_}
-use lib.Dec.{eqb, ltb, leb, lit<}
+use lib.Dec.{ltb, leb, lit<}
 use lib.IntN.{ℤ, pos}
 use lib.ListN.{length}
 use borrow.Author.Tests.{eqb-true}
-use Rattle.partition.specs.Entry.{Entry, Position, tileX, tileY, widthCoded, heightCoded, inheritedHeight, splitCoded, numSlicesInTile, lastSliceOf, defaultAdvance, deltaRefused, nextTile, nextPosition}
+use Rattle.partition.specs.Entry.{Entry, Position, tileX, tileY, widthCoded, heightCoded, inheritedHeight, splitCoded, numSlicesInTile, defaultAdvance, deltaRefused}
 use Rattle.partition.specs.Grid.{Grid, columns, rows, tiles}
 use Rattle.partition.specs.Sizes.{sum, explicitSizes}
 use Rattle.partition.specs.Walk.{rowHeightOf, onward}

@@ -1,6 +1,6 @@
 -- The subpicture id mapping (H.266 7.3.2.5, 7.4.3.5).
 use Prim.Native.Nat.{ℕ, suc, min}
-use mathlib.Core.Path.{_≡_, refl}
+use mathlib.Core.Path.{refl}
 use mathlib.Core.List.{List}
 use mathlib.Core.Bool.{Bool, cond, _&&_}
 use lib.Dec.{leb, lit<}

@@ -1,5 +1,5 @@
 -- Writing a picture parameter set: the symbols of its fields and of its extension, and the bytes that they come to (H.266 7.3.2.5, rbsp_trailing_bits()).
-use Prim.Native.Nat.{ℕ, _-_}
+use Prim.Native.Nat.{ℕ}
 use mathlib.Core.List.{List, [], _∷_, _++_}
 use mathlib.Core.Bool.{Bool, true, false, cond}
 use lib.Dec.{eqb}

@@ -1,13 +1,13 @@
 -- A step over an entry, from its tests and the next slice's tile.
 use mathlib.Core.Path.{_≡_, refl, sym, ap, subst, _∙_}
 use mathlib.Core.List.{List, [], _∷_, _++_}
-use mathlib.Core.Bool.{Bool, true, false, cond, not, _&&_, Bool·beq}
+use mathlib.Core.Bool.{Bool, true, false, cond, _&&_}
 use Prim.Native.Nat.{ℕ, suc, _+_, _-_, _*_, _≤_, _<_, min}
 use native.Mathlib.Omega.{arith}
 use lib.Dec.{ltb, leb, eqb, lit<}
-use borrow.Author.Tests.{ltb-true, ltb-false, leb-false, le-leb, lt-leb}
+use borrow.Author.Tests.{ltb-true, ltb-false, le-leb, lt-leb}
 use Rattle.partition.specs.Checks.{Check, firstBad, numberOf, AllPass, passes, pass-right, Numbered, zero-fine}
-use Rattle.partition.specs.Entry.{Entry, Position, asking, splitCoded, lastSliceOf, defaultAdvance, deltaRefused, nextTile, nextPosition, sizeChecks, inheritedChecks, splitChecks, moveChecks, entryChecks}
+use Rattle.partition.specs.Entry.{Entry, Position, asking, splitCoded, lastSliceOf, nextPosition, sizeChecks, inheritedChecks, splitChecks, moveChecks, entryChecks}
 use Rattle.partition.specs.Sizes.{sum, explicitSizes}
 use Rattle.slice_loop.specs.declared.TileIdx.{TileIdx}
 use Rattle.slice_loop.specs.declared.SliceIdx.{SliceIdx}

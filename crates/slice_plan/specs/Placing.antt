@@ -2,14 +2,12 @@
 use Prim.Native.Nat.{ℕ, suc, _+_, _-_, _*_, _≤_, _<_, min}
 use mathlib.Core.Path.{_≡_, refl, sym, ap, subst, _∙_}
 use mathlib.Core.List.{List, [], _∷_, _++_, map, append-nil}
-use mathlib.Core.Bool.{Bool, true, false, not, cond, _&&_, Bool·beq}
-use native.Mathlib.Numerals.{add-one}
+use mathlib.Core.Bool.{Bool, true, false, not, cond, Bool·beq}
 use native.Mathlib.Omega.{arith}
-use lib.Dec.{ltb}
 use lib.Seq.{sets}
 use lib.ListN.{length, getD, set, take, drop, replicate, length-append}
 use borrow.Author.Tests.{ltb-false}
-use Rattle.partition.specs.Axis.{boundary, boundary-suc, boundary-mono, boundary-le, span, span-one}
+use Rattle.partition.specs.Axis.{boundary, boundary-suc, boundary-mono, boundary-le, span}
 use Rattle.partition.specs.Entry.{Entry, Position, asking, firstPosition, tileX, tileY, splitCoded, splitHeights, lastSliceOf, nextTile, nextPosition}
 use Rattle.partition.specs.Grid.{Grid, columns, rows, tiles}
 use Rattle.partition.specs.Groups.{Group, stacked, groupSlices, plan, stacked-length}
@@ -25,7 +23,6 @@ use Rattle.question_tests.specs.Steps.{position, gridFrom, movedTo}
 use Rattle.question_tests.specs.Tables.{entryAt, entryWith}
 use Rattle.question_tests.specs.Walking.{entriesFrom, first-entry, StandsAt, stands-first, stands-here, stands-after, tile-after}
 use Rattle.tile_sizes.specs.Padded.{zeros, tableOf, filled-places}
-use Rattle.slice_plan.specs.declared.Placed.{Placed}
 use Rattle.slice_plan.specs.Plans.{maxSlices, placedOf}
 use Rattle.slice_plan.specs.Stacking.{PlanTables, planTables, putPlan, put-one, put-none, put-both, kept-lengths, tables-are}
 use Rattle.slice_plan.specs.Starts.{StartsAt}

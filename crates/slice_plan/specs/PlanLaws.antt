@@ -1,15 +1,15 @@
 -- What is placed in a grid, from what the parts of `placed_in` answer.
 use Prim.Native.Nat.{ℕ, _*_, _≤_, _<_}
 use mathlib.Core.Path.{_≡_, refl, sym, ap, _∙_}
-use mathlib.Core.Bool.{Bool, true, false, cond, _&&_}
+use mathlib.Core.Bool.{Bool, true, false, _&&_}
 use mathlib.Core.List.{List}
 use native.Mathlib.Omega.{arith}
 use lib.Dec.{leb}
-use lib.ListN.{length, replicate}
+use lib.ListN.{replicate}
 use borrow.Author.Tests.{leb-true, le-leb, lt-leb}
 use Rattle.partition.specs.Grid.{Grid, columns, rows, tiles}
 use Rattle.partition.specs.Groups.{Group, plan}
-use Rattle.partition.specs.Partition.{Layout, declined, unsliced, sliced}
+use Rattle.partition.specs.Partition.{declined, unsliced, sliced}
 use Rattle.partition.specs.Walk.{placed}
 use Rattle.pps_record.specs.declared.VvcPpsPartition.{VvcPpsPartition}
 use Rattle.pps_syntax.specs.BlockRefusal.{declinedWith}

@@ -12,7 +12,7 @@ use Rattle.codes.specs.Bits.{toBits, Binary, binary-toBits}
 use Rattle.codes.specs.Coded.{flagBit, ueSymbols, seSymbols}
 use Rattle.codes.specs.ExpGolomb.{ueCode, ue-binary, signedOf, codeNum, signed-code, seCode}
 use Rattle.codes.specs.Holds.{Holds}
-use Rattle.codes.specs.Symbols.{Symbol, refusalIn, bitsIn, putting, check, checked, check-true, refusal-append, bits-in-append, refusal-putting, bits-in-putting, refusal-check, bits-in-check, first, first-none, first-zero, first-right}
+use Rattle.codes.specs.Symbols.{refusalIn, bitsIn, putting, check, checked, refusal-append, bits-in-append, refusal-putting, bits-in-putting, refusal-check, bits-in-check, first, first-right}
 use Rattle.bit_reader.specs.declared.Cursor.{Cursor}
 use Rattle.bit_reader.specs.declared.BitsRead.{BitsRead}
 use Rattle.bit_reader.specs.declared.SignedRead.{SignedRead}

@@ -1,22 +1,20 @@
 -- A small syntax, described once, read and written: worked examples, computed.
-use Prim.Native.Nat.{ℕ, suc}
+use Prim.Native.Nat.{ℕ}
 use mathlib.Core.Path.{_≡_, refl}
-use mathlib.Core.List.{List, [], _∷_, _++_, map}
+use mathlib.Core.List.{List, [], _∷_, map}
 use mathlib.Core.Bool.{Bool, true, false}
 use lib.Dec.{leb, lit<}
 use lib.IntN.{ℤ, pos, negsuc}
 use Rattle.codes.specs.Bits.{toBits}
 use Rattle.codes.specs.Bytes.{bitAt, bitsAt}
-use Rattle.codes.specs.Coded.{flagBit}
 use Rattle.codes.specs.ExpGolomb.{halvings, floorLog2, ueCode, codeNum, seCode, signedOf}
 use Rattle.codes.specs.Symbols.{first, refusalIn, bitsIn, check, checked}
 use Rattle.bit_reader.specs.declared.Cursor.{Cursor}
-use Rattle.bit_reader.specs.Reading.{cursorAt, refusal, unlessRefused, onward, uRead, stops, zerosAt, ueAfter, ueWithin, ueRead, seRead, demanded}
-use Rattle.syntax.specs.Element.{Parsed, parsed}
+use Rattle.bit_reader.specs.Reading.{cursorAt, unlessRefused, onward, uRead, stops, zerosAt, ueAfter, ueWithin, ueRead, seRead, demanded}
+use Rattle.syntax.specs.Element.{Parsed}
 use Rattle.syntax.specs.Elements.{u, flag, ue, se, limited, orElse, absent, sameℤ, isSet}
 use Rattle.syntax.specs.Lists.{many}
-use Rattle.syntax.specs.Round.{structure}
-use Rattle.syntax.specs.Syntax.{Syntax, done, onWriting, onReading, _for_, _>>=_, _&_, parse, symbolsFor, bitsFor, refusalFor, canonicalFor, rebuilt, Faithful, Whole}
+use Rattle.syntax.specs.Syntax.{Syntax, done, _for_, _>>=_, _&_, parse, symbolsFor, bitsFor, refusalFor, canonicalFor, rebuilt, Faithful, Whole}
 
 -- an id of 4 bits; a flag with an offset; a count of at most 2 and as many numbers
 pub record Sample : Type 0 where

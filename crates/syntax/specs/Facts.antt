@@ -1,9 +1,7 @@
 -- What it says of a record that writing it is refused nowhere and that reading could have given it: a fact for each element and each test, in order.
-use Prim.Native.Nat.{ℕ}
 use mathlib.Core.Path.{_≡_}
 use mathlib.Core.Bool.{true}
 use Rattle.codes.specs.Symbols.{refusalIn, check}
-use Rattle.syntax.specs.Element.{Element}
 use Rattle.syntax.specs.Syntax.{Syntax, done, element, onWriting, onReading, symbolsFor, refusalFor, canonicalFor}
 use Rattle.syntax.specs.Round.{and-parts, refusal-parts}
 

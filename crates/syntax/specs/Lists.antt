@@ -1,5 +1,5 @@
 -- Lists of elements: of a given length, and of parts that depend on a state which each part moves on.
-use Prim.Native.Nat.{ℕ, zero, suc, _+_, _<_}
+use Prim.Native.Nat.{ℕ, zero, suc, _+_}
 use mathlib.Core.Path.{_≡_, refl, sym, ap, subst, _∙_}
 use mathlib.Core.List.{List, [], _∷_, _++_}
 use mathlib.Core.Bool.{Bool, true, false, _&&_}
@@ -10,7 +10,7 @@ use lib.ListN.{length}
 use borrow.Author.Tests.{eqb-false}
 use Rattle.codes.specs.Bits.{Binary}
 use Rattle.codes.specs.Holds.{Holds, holds-left, holds-right}
-use Rattle.codes.specs.Symbols.{Symbol, refusalIn, bitsIn, putting, check, bits-in-append, bits-in-check, bits-in-putting, refusal-putting}
+use Rattle.codes.specs.Symbols.{Symbol, refusalIn, bitsIn, check, bits-in-append, bits-in-check, bits-in-putting, refusal-putting}
 use Rattle.bit_reader.specs.declared.Cursor.{Cursor}
 use Rattle.bit_reader.specs.Reading.{cursorAt}
 use Rattle.bit_reader.specs.Took.{Going}

@@ -1,6 +1,6 @@
 -- How a function that reads is shown to follow a description: what is known of its calls, one step for each, the last call first.
 use Prim.Native.Nat.{ℕ, _<_}
-use mathlib.Core.Path.{_≡_, refl, sym, ap, _∙_}
+use mathlib.Core.Path.{_≡_, refl, ap}
 use mathlib.Core.List.{List}
 use mathlib.Core.Bool.{Bool, true, false}
 use lib.IntN.{ℤ}
@@ -10,7 +10,7 @@ use Rattle.bit_reader.specs.declared.ByteRead.{ByteRead}
 use Rattle.bit_reader.specs.declared.SignedRead.{SignedRead}
 use Rattle.bit_reader.specs.Reading.{uRead, byteRead, demanded, byteOr, bitsOr, signedOr}
 use Rattle.syntax.specs.Element.{Parsed, parsed, Element}
-use Rattle.syntax.specs.Syntax.{Syntax, done, element, onWriting, onReading, onBoth, Placed, _>>=_, parse}
+use Rattle.syntax.specs.Syntax.{Syntax, done, onWriting, onReading, onBoth, Placed, _>>=_, parse}
 use Rattle.syntax.specs.Elements.{bitsParsed, signedParsed, sameℕ, sameℤ, absent, orElse}
 
 module _ {R : Type 0} where

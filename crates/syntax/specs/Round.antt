@@ -1,5 +1,5 @@
 -- Reading and writing by one description agree, whatever the description. Proved once, by induction on it.
-use Prim.Native.Nat.{ℕ, zero, suc, _+_, _≤_, _<_}
+use Prim.Native.Nat.{ℕ, _+_, _<_}
 use mathlib.Core.Path.{_≡_, refl, sym, ap, subst, _∙_}
 use mathlib.Core.List.{List, [], _++_}
 use mathlib.Core.Bool.{Bool, true, false, cond, _&&_}
@@ -10,12 +10,12 @@ use lib.ListN.{length}
 use borrow.Author.Tests.{eqb-false}
 use Rattle.codes.specs.Bits.{Binary, binary-append}
 use Rattle.codes.specs.Holds.{Holds, holds-none, holds-append, holds-left, holds-right}
-use Rattle.codes.specs.Symbols.{Symbol, first, first-none, first-zero, refusalIn, bitsIn, refusal-append, bits-in-append, check, check-true, refusal-check, bits-in-check, refusal-putting, bits-in-putting}
+use Rattle.codes.specs.Symbols.{Symbol, first-none, first-zero, refusalIn, bitsIn, refusal-append, bits-in-append, check, check-true, bits-in-check, refusal-putting, bits-in-putting}
 use Rattle.bit_reader.specs.declared.Cursor.{Cursor}
 use Rattle.bit_reader.specs.Reading.{cursorAt, refusal, demanded}
 use Rattle.bit_reader.specs.Laws.{demanded-true}
 use Rattle.bit_reader.specs.Took.{Going, Took}
-use Rattle.syntax.specs.Element.{Parsed, parsed, Consumed, Element}
+use Rattle.syntax.specs.Element.{parsed, Consumed, Element}
 use Rattle.syntax.specs.Syntax.{Syntax, done, element, onWriting, onReading, parse, symbolsFor, bitsFor, refusalFor, canonicalFor, rebuilt, Faithful, Whole}
 
 -- ---- symbols put together

@@ -1,13 +1,12 @@
 -- How a function that writes is shown to follow a description: what is known of its calls, one step for each, the last call first.
 use Prim.Native.Nat.{ℕ, _<_}
 use mathlib.Core.Path.{_≡_, refl, sym, ap, _∙_}
-use mathlib.Core.List.{List, [], _++_}
 use mathlib.Core.Bool.{Bool, true, false}
 use Rattle.codes.specs.Coded.{onlyIf}
-use Rattle.codes.specs.Symbols.{Symbol, check, check-none}
+use Rattle.codes.specs.Symbols.{check, check-none}
 use Rattle.bit_writer.specs.Writing.{Writing, play, play-append, play-none}
 use Rattle.syntax.specs.Element.{Element}
-use Rattle.syntax.specs.Syntax.{Syntax, done, element, onWriting, onReading, onBoth, Placed, _>>=_, symbolsFor}
+use Rattle.syntax.specs.Syntax.{Syntax, done, onWriting, onReading, Placed, _>>=_, symbolsFor}
 use Rattle.syntax.specs.Elements.{Same, absent, orElse}
 
 module _ {R : Type 0} where
@@ -28,11 +27,6 @@ module _ {R : Type 0} where
       → play v (symbolsFor k r) ≡ play w (symbolsFor (onWriting test n k) r)
   unfolding symbolsFor
   writes-test test n k r w e = ap (λ (x : Writing). play x (symbolsFor k r)) e ∙ sym (play-append w (check (test r) n) (symbolsFor k r))
-
-  pub writes-both : (ok : Bool) (n : ℕ) (l : 0 < n) (k : Syntax R) (r : R) (w : Writing) {v : Writing} → v ≡ play w (check ok n)
-      → play v (symbolsFor k r) ≡ play w (symbolsFor (onBoth ok n l k) r)
-  unfolding symbolsFor
-  writes-both ok n l k r w e = ap (λ (x : Writing). play x (symbolsFor k r)) e ∙ sym (play-append w (check ok n) (symbolsFor k r))
 
   -- a test of reading, which writing passes over
   pub writes-past : (ok : Bool) (n : ℕ) (l : 0 < n) (k : Syntax R) (r : R) (w : Writing) → play w (symbolsFor k r) ≡ play w (symbolsFor (onReading ok n l k) r)

@@ -1,12 +1,12 @@
 -- Laws on lent tables: a table that is blank, one that is filled from the front, one that bytes are laid over.
 use mathlib.Core.Path.{_≡_, refl, sym, ap, _∙_}
-use mathlib.Core.List.{List, [], _∷_, _++_, append-assoc, append-nil}
+use mathlib.Core.List.{List, [], _∷_, _++_, append-nil}
 use Prim.Native.Nat.{ℕ, zero, suc, _+_, _-_, _<_, _≤_}
-use native.Mathlib.Nat.{zero-add, add-zero, add-suc, suc-add, sub-zero, suc-sub-suc, zero-sub, not-suc-le-zero, le-of-suc-le-suc}
+use native.Mathlib.Nat.{zero-add, add-zero, add-suc, suc-add, not-suc-le-zero, le-of-suc-le-suc}
 use native.Mathlib.Numerals.{add-one}
 use native.Mathlib.Omega.{arith}
 use lib.ListN.{length, set, drop, replicate, getD, length-append, length-replicate, length-drop, drop-of-length-le, List·getD-eq-default}
-use lib.Seq.{sets, sets-eq, set-at, drop-cons, append-snoc}
+use lib.Seq.{sets, sets-eq}
 
 module _ {A : Type 0} where
   -- n places that all hold v. Shut, so that a thousand of them are not written out
@@ -21,12 +21,6 @@ module _ {A : Type 0} where
   pub blank-length : (n : ℕ) (v : A) → length (blank n v) ≡ n
   unfolding blank
   blank-length n v = length-replicate n v
-
-  pub drop-blank : (n m : ℕ) (v : A) → drop n (blank m v) ≡ blank (m - n) v
-  unfolding blank
-  drop-blank zero m v = rw sub-zero
-  drop-blank (suc n) zero v = rw zero-sub
-  drop-blank (suc n) (suc m) v = rw suc-sub-suc (drop-blank n m v)
 
   -- ---- a front of n places that hold v, as a loop makes it
   pub blank-begins : (v : A) (t : List A) → t ≡ blank 0 v ++ drop 0 t
@@ -52,12 +46,6 @@ module _ {A : Type 0} where
   past-table t v i h = sym (List·getD-eq-default t v h)
 
   -- ---- any front
-  -- a store just behind a front makes the front one longer
-  pub put-next : (p t : List A) (i : ℕ) (v : A) → length p ≡ i → i < length t → set (p ++ drop i t) i v ≡ (p ++ (v ∷ [])) ++ drop (i + 1) t
-  put-next p t i v e h =
-      ap (λ (l : List A). set (p ++ l) i v) (drop-cons t i v h) ∙ set-at p (getD t i v) (drop (suc i) t) v i e
-      ∙ sym (append-snoc p v (drop (suc i) t)) ∙ ap (λ (n : ℕ). (p ++ (v ∷ [])) ++ drop n t) (sym (add-one i))
-
   pub front-length : (p t : List A) (i : ℕ) → length p ≡ i → i ≤ length t → length (p ++ drop i t) ≡ length t
   front-length p t i e h = omega (arith, length-append p (drop i t), length-drop i t)
 

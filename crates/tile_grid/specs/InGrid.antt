@@ -1,11 +1,11 @@
 -- The questions by their steps: the tests before the slices' and the grid, then the slices in it.
-use Prim.Native.Nat.{ℕ, zero, suc, _+_, _-_, _*_, _/_, _≤_, _<_, min}
+use Prim.Native.Nat.{ℕ, zero, suc, _+_, _-_, _/_, _≤_, _<_, min}
 use mathlib.Core.Path.{_≡_, refl, sym, ap, _∙_}
 use mathlib.Core.List.{List, [], _∷_, _++_, map}
 use mathlib.Core.Bool.{Bool, true, false, cond}
 use native.Mathlib.Nat.{div-le-self, mul-le-mul-right, div-mul-le-self, le-trans, mul-pos}
 use native.Mathlib.Omega.{arith}
-use lib.Dec.{eqb, leb, lit<}
+use lib.Dec.{eqb, lit<}
 use lib.ListN.{length, take}
 use lib.Seq.{take-append-seam, length-take-le}
 use borrow.Author.Tests.{eqb-true, eqb-false, eq-eqb, ne-eqb, le-leb}
@@ -14,7 +14,7 @@ use Rattle.partition.specs.Checks.{Check, Outcome, fine, refusedWith, firstBad,
 use Rattle.partition.specs.Entry.{asking}
 use Rattle.partition.specs.Grid.{Grid, tiles, columns, rows}
 use Rattle.partition.specs.Groups.{Group}
-use Rattle.partition.specs.Partition.{Partition, inCtbs, tileGrid, explicitChecks, axisChecks, gridChecks, gridOf, gridChecksOf, deltaFlagChecks, partitionChecks, Layout, declined, unsliced, sliced, unless, layout}
+use Rattle.partition.specs.Partition.{inCtbs, tileGrid, explicitChecks, axisChecks, gridChecks, gridOf, gridChecksOf, deltaFlagChecks, partitionChecks, Layout, declined, unsliced, sliced, unless, layout}
 use Rattle.partition.specs.Walk.{placed}
 use Rattle.partition.specs.Sizes.{sum, axisSizes, Fit, pos-sizes, sum-sizes}
 use Rattle.pps_record.specs.declared.VvcPps.{VvcPps}

@@ -1,5 +1,4 @@
 -- What the questions answer, for C to hold: the number of a refusal, 0 where nothing is refused, and the values; of a cover its kind, with its tile or its refusal.
-use Prim.Native.Nat.{ℕ}
 use mathlib.Core.Path.{_≡_}
 use Rattle.partition.specs.Partition.{Layout}
 use Rattle.tile_grid.specs.declared.GridAnswer.{GridAnswer}

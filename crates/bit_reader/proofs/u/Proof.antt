@@ -1,4 +1,3 @@
-use Prim.Native.Nat.{ℕ}
 use mathlib.Core.Path.{ap, _∙_}
 use native.Mathlib.Omega.{arith}
 use Rattle.codes.specs.Bytes.{bitsAt}

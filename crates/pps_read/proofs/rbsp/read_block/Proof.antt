@@ -1,4 +1,3 @@
-use mathlib.Core.Path.{refl}
 use Rattle.pps_record.specs.Absent.{noPartition}
 use Rattle.pps_syntax.specs.Record.{partitionRecord}
 use Rattle.pps_read.specs.Block.{block-made, no-block}
