@@ -336,7 +336,7 @@ pub fn extension_bits(s: &[u8], at: usize) -> usize
     0
 }
 
-// more_rbsp_data()
+// more_rbsp_data() as the Rust has it: whether two 1 bits are left, of which the last is the stop bit.
 pub fn more_rbsp_data(s: &[u8], at: usize) -> bool
     ensures { λ r. ⌜ r ≡ moreRbspData (now (s .entry)) at ⌝ }
 {

@@ -10,7 +10,7 @@ use Rattle.syntax.specs.Elements.{isSet}
 use Rattle.syntax.specs.Syntax.{symbolsFor}
 use Rattle.pps_syntax.specs.Pps.{Pps, pps}
 
--- extension bits end in a 1, or there are none: a final 0 could not be told from the trailing bits
+-- extension bits end in a 1, or there are none: a final 0 would be read as the stop bit
 abbrev pub endInOne : List ℕ → Bool
 endInOne [] = true
 endInOne (b ∷ bs) = eqb (getD (b ∷ bs) (length bs) 0) 1
