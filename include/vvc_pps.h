@@ -1,8 +1,10 @@
 /* The C interface of the H.266 (VVC) picture parameter set library; link libvvc_pps.a.
  *
- * Bytes and tables are handed over as a pointer and a length. The pointer is not null, even where the length is 0, and what a function
- * may change overlaps nothing else that is handed over. `refused` is 0 or the number of a refusal, and the values beside a refusal are
- * 0. Nothing is allocated and nothing is kept between calls, so that any thread may call any function. */
+ * Bytes and tables are handed over as a pointer and a length. The pointer is not null, even where the length is 0, and
+ * what a function may change overlaps nothing else that is handed over. In an answer `refused` is 0 or the number of a
+ * refusal, and the values beside a refusal are 0, but for the kind of a cover answer and the fields of a cursor or a
+ * sink. Nothing is allocated and nothing is kept between calls, so that any thread may call any function.
+ * docs/BEHAVIOUR.md says what the library does, docs/DIFFERENCES.md where H.266 is different. */
 #ifndef VVC_PPS_H
 #define VVC_PPS_H
 
@@ -20,13 +22,16 @@ enum {
     VVC_NAL_TOO_SHORT = 1, /* NAL unit under 2 bytes */
     VVC_NOT_A_PPS = 2, /* nal_unit_type not 16 */
     VVC_TOO_MANY_BYTES = 3, /* NAL unit to be read, or bytes given to escaping or unescaping alone, over 65,535 bytes */
-    VVC_WORK_BUFFER_TOO_SHORT = 4, /* work buffer shorter than the NAL unit's length - 2; in unescaping, than the input */
-    VVC_TABLE_TOO_SHORT = 5, /* a lent table below its length; in writing also a count above that length, or extension bits outside the lent bytes */
+    VVC_WORK_BUFFER_TOO_SHORT = 4, /* work buffer shorter than the unit's length - 2; in unescaping, than the input */
+    /* a lent table below its length; in writing and the questions also a count above that length; in writing also
+     * extension bits outside the lent bytes */
+    VVC_TABLE_TOO_SHORT = 5,
     VVC_UE_TOO_LONG = 6, /* ue(v) with 32 leading zeros */
     VVC_PICTURE_SIZE_ZERO = 7, /* width or height 0 */
     VVC_SUBPICS_OUT_OF_RANGE = 8, /* subpictures minus 1 over 999, or id length minus 1 over 15 */
     VVC_CTU_SIZE_OUT_OF_RANGE = 9, /* pps_log2_ctu_size_minus5 over 2 */
-    VVC_TILE_COUNT_OUT_OF_RANGE = 10, /* coded explicit columns minus 1 at least 30 or rows minus 1 at least 990; in writing, none */
+    /* coded explicit columns minus 1 at least 30 or rows minus 1 at least 990; in writing and the questions, none */
+    VVC_TILE_COUNT_OUT_OF_RANGE = 10,
     VVC_TILE_SIZE_OUT_OF_RANGE = 11, /* tile size minus 1 at least the picture's CTBs on that axis */
     VVC_TILES_PAST_PICTURE = 12, /* explicit tile sizes sum past the picture */
     VVC_TOO_MANY_TILES = 13, /* over 30 columns, or rows over 990 / columns */
@@ -42,7 +47,9 @@ enum {
     VVC_WRONG_TRAILING_BITS = 23, /* stop bit 0 or alignment bit 1 */
     VVC_ID_OUT_OF_RANGE = 24, /* writing: PPS id over 63 or SPS id over 15 */
     VVC_NO_CODE = 25, /* 4294967295 as ue(v), -2147483648 as se(v) */
-    VVC_CONTRADICTS_SYNTAX = 26, /* writing: an optional part, an inferred value or the number of slice entries contradicts the syntax */
+    /* writing and the questions: an optional part, an inferred value or the number of slice entries contradicts the
+     * syntax; the questions: a flag over 1 */
+    VVC_CONTRADICTS_SYNTAX = 26,
     VVC_SUBPIC_IDS_WRONG = 27, /* writing: number of subpicture ids wrong, or an id too large for its length */
     VVC_EXTENSION_ENDS_IN_ZERO = 28, /* writing: extension bits end in 0 */
     VVC_OUTPUT_TOO_SHORT = 29, /* writing or escaping: output shorter than the bytes to be put there */
@@ -74,8 +81,9 @@ typedef struct VvcUeSize {
     uint32_t bits;
 } VvcUeSize;
 
-/* The place of the next bit, counted from the high bit of the first byte. A refusal sticks: once there is one, every reader gives 0 and
- * hands the cursor back as it is. Start with { 0, 0 }. */
+/* The place of the next bit, counted from the high bit of the first byte. A refusal sticks: once there is one, every
+ * reader gives 0 and hands the cursor back as it is. A reader that refuses leaves the place as it was. Start with
+ * { 0, 0 }. */
 typedef struct VvcCursor {
     size_t at;
     uint8_t refused;
@@ -91,7 +99,8 @@ typedef struct VvcSignedRead {
     VvcCursor next;
 } VvcSignedRead;
 
-/* Where writing stands. Start with vvc_sink. A refusal sticks; the bits put after it mean nothing. */
+/* Where writing stands. Start with vvc_sink. A refusal sticks, but the writers go on moving and storing: what was
+ * stored since means nothing. */
 typedef struct VvcSink {
     bool escape;   /* bytes are escaped as they are made */
     uint8_t zeros; /* the run of zero bytes behind, 2 for two and more */
@@ -110,8 +119,10 @@ enum {
     VVC_SPLIT_HEIGHTS = 1000,
 };
 
-/* A picture parameter set (H.266 7.3.2.5). A field that is not coded has its inferred value, and an absent block (`present` 0) is 0
- * throughout. Flags are 0 or 1. */
+/* A picture parameter set (H.266 7.3.2.5), as reading gives it: flags are 0 or 1, an absent block (`present` 0) is 0
+ * throughout, and a field that is not coded is 0, but for pps_rect_slice_flag in one tile (1), uncoded slice heights
+ * and the chroma offsets of the deblocking block. For pps_num_slices_in_pic_minus1 with a single slice per subpicture,
+ * the windows without their flags and an absent partition H.266 infers something else (docs/DIFFERENCES.md, 19). */
 
 typedef struct VvcPpsConfWinOffsets {
     uint8_t present; /* pps_conformance_window_flag */
@@ -152,7 +163,8 @@ typedef struct VvcPpsPartition {
     uint8_t pps_loop_filter_across_slices_enabled_flag;
 } VvcPpsPartition;
 
-/* The list is the first `cu_chroma_qp_offset_list_len` of the triples; their third offsets are coded where the joint flag is 1. */
+/* The list is the first `cu_chroma_qp_offset_list_len` of the triples; their third offsets are coded where the joint
+ * flag is 1. */
 typedef struct VvcPpsChromaToolOffsets {
     uint8_t present; /* pps_chroma_tool_offsets_present_flag */
     int32_t pps_cb_qp_offset;
@@ -209,8 +221,10 @@ typedef struct VvcPps {
     uint8_t pps_picture_header_extension_present_flag;
     uint8_t pps_slice_header_extension_present_flag;
     uint8_t pps_extension_flag;
-    size_t pps_extension_data_first_bit; /* the extension bits lie in the work buffer: the first of them, from its first bit on, */
-    size_t pps_extension_data_bits;      /* and how many there are; 0 and 0 without any */
+    /* the extension bits lie in the work buffer: the first of them, from its first bit on, and how many there are; 0
+     * and 0 without any */
+    size_t pps_extension_data_first_bit;
+    size_t pps_extension_data_bits;
 } VvcPps;
 
 /* The set took the first `bytes_taken` bytes of the work buffer. */
@@ -220,8 +234,8 @@ typedef struct VvcPpsRead {
     VvcPps pps;
 } VvcPpsRead;
 
-/* The tile grid of a picture, in CTBs, with no columns and no rows where it is unpartitioned. Places not in use are 0, and all of them
- * beside a refusal. */
+/* The tile grid of a picture, in CTBs, with no columns and no rows where it is unpartitioned. Places not in use are 0,
+ * and all of them beside a refusal. */
 typedef struct VvcGridAnswer {
     uint8_t refused;
     uint32_t num_tile_columns;
@@ -230,8 +244,8 @@ typedef struct VvcGridAnswer {
     uint32_t row_heights[990];
 } VvcGridAnswer;
 
-/* Where each slice of a picture lies, in CTBs, by slice index; without slices where none are coded. Places not in use are 0, and all of
- * them beside a refusal. */
+/* Where each slice of a picture lies, in CTBs from the top left, by slice index; without slices where none are coded.
+ * Places not in use are 0, and all of them beside a refusal. */
 typedef struct VvcPlanAnswer {
     uint8_t refused;
     uint32_t num_slices;
@@ -257,40 +271,46 @@ typedef struct VvcCoverAnswer {
     uint32_t tile;
 } VvcCoverAnswer;
 
-/* Takes the escape bytes out of a payload (H.266 7.4.2.1). Refusals: 3 for more than 65,535 bytes, 4 where `out` is shorter than the
- * payload. Only the bytes reported are changed. */
+/* Takes the escape bytes out of a payload (H.266 7.4.2.1). Refusals: 3 for more than 65,535 bytes, 4 where `out` is
+ * shorter than the payload. Only the bytes reported are changed. */
 VvcByteCount vvc_ebsp_to_rbsp(const uint8_t *ebsp, size_t ebsp_len, uint8_t *out, size_t out_len);
 
-/* Puts the escape bytes into a payload (H.266 7.4.2.1). Refusals: 3 for more than 65,535 bytes, 29 where `out` is shorter than the
- * escaped bytes. Only the bytes reported are changed. */
+/* Puts the escape bytes into a payload (H.266 7.4.2.1, but that a single final 00 gets none). Refusals: 3 for more than
+ * 65,535 bytes, 29 where `out` is shorter than the escaped bytes. Only the bytes reported are changed. */
 VvcByteCount vvc_rbsp_to_ebsp(const uint8_t *rbsp, size_t rbsp_len, uint8_t *out, size_t out_len);
 
-/* The header at the front of a NAL unit. Refusal: 1 for fewer than 2 bytes. Forbidden and reserved bits are not tested. */
+/* The header at the front of a NAL unit. Refusal: 1 for fewer than 2 bytes. Forbidden and reserved bits are not
+ * tested. */
 VvcNalHeaderRead vvc_parse_nal_header(const uint8_t *nal, size_t nal_len);
 
-/* Reads a NAL unit that holds a picture parameter set, its 2-byte header included. Refusals: 1 to 23, 1 to 5 first and in that order.
+/* Reads a NAL unit that holds a picture parameter set, its 2-byte header included, of which only the type is tested.
+ * Refusals: 1 to 23, 1 to 5 first and in that order.
  *
- * Lent are a work buffer of at least the NAL unit's length - 2 bytes (else 4), which takes the payload without its escape bytes, and
- * tables of at least these lengths (else 5): `subpic_ids` 1,000; `tile_column_widths` 30; `tile_row_heights` 990; `slice_widths` to
- * `deltas` 999 each, one place a slice entry; `split_heights` 1,000, of which each entry takes its split count, in order; `triples` 6.
- * Sizes, heights and widths are as coded, minus 1. Where an entry has a split count or a delta, its place in `split_present` or
- * `delta_present` is 1.
+ * Lent are a work buffer of at least the NAL unit's length - 2 bytes (else 4), which takes the payload without its
+ * escape bytes, and tables of at least these lengths (else 5): `subpic_ids` 1,000; `tile_column_widths` 30;
+ * `tile_row_heights` 990; `slice_widths` to `deltas` 999 each, one place a slice entry; `split_heights` 1,000, of which
+ * each entry takes its split count, in order. The `triples` are six, and no length is handed over for them. Sizes,
+ * heights and widths are as coded, minus 1. Where an entry has a split count or a delta, its place in `split_present`
+ * or `delta_present` is 1.
  *
- * After 1 to 5 nothing lent has changed. Otherwise the work buffer starts with the payload, its rest as before, and the tables have
- * the entries in use, then zeros to their ends; after 6 to 23, zeros throughout. */
+ * After 1 to 5 nothing lent has changed. Otherwise the work buffer starts with the payload, its rest as before, and the
+ * tables have the entries in use, then zeros to their ends; after 6 to 23, zeros throughout. */
 VvcPpsRead vvc_parse_pps(const uint8_t *nal, size_t nal_len, uint8_t *work, size_t work_len, uint32_t *subpic_ids, size_t subpic_ids_len,
     uint32_t *tile_column_widths, size_t tile_column_widths_len, uint32_t *tile_row_heights, size_t tile_row_heights_len,
     uint32_t *slice_widths, size_t slice_widths_len, uint32_t *slice_heights, size_t slice_heights_len, uint8_t *split_present,
     size_t split_present_len, uint32_t *split_counts, size_t split_counts_len, uint8_t *delta_present, size_t delta_present_len,
     int32_t *deltas, size_t deltas_len, uint32_t *split_heights, size_t split_heights_len, int32_t triples[6][3]);
 
-/* Writes the RBSP of a picture parameter set, with its trailing bits. Refusals: 5, then 7 to 21 and 24 to 28 in the order in which the
- * fields are written, then 29 where `out` is shorter than the bytes.
+/* Writes the RBSP of a picture parameter set, with its trailing bits. Refusals: 5, then 7 to 21 and 24 to 28 in the
+ * order in which the fields are written, then 29 where `out` is shorter than the bytes.
  *
- * The tables are those that reading fills, of the same lengths at least (else 5, as for a count in the record that passes its table).
- * The extension bits are taken out of `extension`, from the bit that the record names on: after reading, the work buffer. Without any,
- * `extension` may be empty. Flags over 1 are written as 1. An uncoded height is held to the grid alone, not to what reading infers, and
- * the fields of absent blocks are not looked at.
+ * The tables are those that reading fills, of the same lengths at least (else 5, as for a count in the record over
+ * those lengths). The extension bits are taken out of `extension`, from the bit that the record names on: after
+ * reading, the work buffer. Without any, `extension` may be empty; without their flag they are 26. Flags over 1 are
+ * written as 1, but pps_rect_slice_flag in one tile has to be 1 (26). An uncoded width or height is held to the grid
+ * alone (15), not to what reading infers, and pps_tile_idx_delta_present_flag is followed even where it is not coded.
+ * Other fields that are not written, and those of absent blocks, are not looked at, but for pps_num_subpics_minus1 of a
+ * mapping in an unpartitioned picture, which has to be 0 (26).
  *
  * A refusal changes nothing, an acceptance only the bytes reported. */
 VvcByteCount vvc_write_pps(VvcPps pps, const uint32_t *subpic_ids, size_t subpic_ids_len, const uint32_t *tile_column_widths,
@@ -308,10 +328,12 @@ VvcByteCount vvc_write_pps_nal(VvcPps pps, const uint32_t *subpic_ids, size_t su
     size_t delta_present_len, const int32_t *deltas, size_t deltas_len, const uint32_t *split_heights, size_t split_heights_len,
     const int32_t triples[6][3], const uint8_t *extension, size_t extension_len, uint8_t *out, size_t out_len);
 
-/* The questions on a record with the tables that reading fills (H.266 6.5.1). Refusals: 5 as in writing, the extension bits aside; 7; 26
- * for the no-partition flag or a flag of a present partition over 1, and for a partition that is there or missing against that flag; then
- * 9 to 19, 25 and 26 as writing has them in the partition, with 26 also for a delta flag where pps_num_slices_in_pic_minus1 is under 2,
- * and for an uncoded slice height that isn't the one that reading infers. What lies outside the partition is not looked at. Nothing lent
+/* The questions on a record with the tables that reading fills (H.266 6.5.1). Refusals: 5 as in writing, the extension
+ * bits aside; 7; 26 for the no-partition flag or a flag of a present partition over 1, and for a partition that is
+ * there or missing against that flag; then 9 to 19, 25 and 26 as writing has them in the partition, with 26 also, where
+ * slices are coded, for a delta flag with pps_num_slices_in_pic_minus1 under 2, and for an uncoded slice height that
+ * isn't the one that reading infers. All three make all of these tests. Of what lies outside the partition only the
+ * picture's size and the no-partition flag are looked at, and the number of subpicture ids for 5. Nothing lent
  * changes. */
 
 /* The sizes of the tile columns and rows. */
@@ -321,14 +343,15 @@ VvcGridAnswer vvc_tile_grid(VvcPps pps, const uint32_t *subpic_ids, size_t subpi
     size_t split_present_len, const uint32_t *split_counts, size_t split_counts_len, const uint8_t *delta_present,
     size_t delta_present_len, const int32_t *deltas, size_t deltas_len, const uint32_t *split_heights, size_t split_heights_len);
 
-/* Each slice's left, top, width and height. */
+/* Each slice's left, top, width and height. Takes 119,000 bytes of stack beside the answer. */
 VvcPlanAnswer vvc_slice_plan(VvcPps pps, const uint32_t *subpic_ids, size_t subpic_ids_len, const uint32_t *tile_column_widths,
     size_t tile_column_widths_len, const uint32_t *tile_row_heights, size_t tile_row_heights_len, const uint32_t *slice_widths,
     size_t slice_widths_len, const uint32_t *slice_heights, size_t slice_heights_len, const uint8_t *split_present,
     size_t split_present_len, const uint32_t *split_counts, size_t split_counts_len, const uint8_t *delta_present,
     size_t delta_present_len, const int32_t *deltas, size_t deltas_len, const uint32_t *split_heights, size_t split_heights_len);
 
-/* Whether the slices cover each block once. The tile of a gap or a double is any that is as said. */
+/* Whether the slices cover each block once. The tile of a gap or a double is any that is as said. Takes 127,000 bytes of
+ * stack. */
 VvcCoverAnswer vvc_cover(VvcPps pps, const uint32_t *subpic_ids, size_t subpic_ids_len, const uint32_t *tile_column_widths,
     size_t tile_column_widths_len, const uint32_t *tile_row_heights, size_t tile_row_heights_len, const uint32_t *slice_widths,
     size_t slice_widths_len, const uint32_t *slice_heights, size_t slice_heights_len, const uint8_t *split_present,
@@ -343,7 +366,7 @@ VvcUeSize vvc_ue_size(uint32_t v);
 /* u(n); more than 32 bits are read as 32. */
 VvcBitsRead vvc_read_u(const uint8_t *s, size_t s_len, VvcCursor c, uint32_t n);
 
-/* ue(v). Refusal: 6 for 32 leading zeros. */
+/* ue(v); k zeros that the end cuts off give 2^k - 1. Refusal: 6 for 32 leading zeros. */
 VvcBitsRead vvc_read_ue(const uint8_t *s, size_t s_len, VvcCursor c);
 
 /* se(v). Refusal: 6 as for ue(v). */
@@ -352,14 +375,17 @@ VvcSignedRead vvc_read_se(const uint8_t *s, size_t s_len, VvcCursor c);
 /* rbsp_trailing_bits(). Refusals: 22 with no bit left, 23 for a stop bit 0 or an alignment bit 1. */
 VvcCursor vvc_read_rbsp_trailing_bits(const uint8_t *s, size_t s_len, VvcCursor c);
 
-/* more_rbsp_data(): whether at least two 1 bits lie from bit `at` on. */
+/* Whether at least two 1 bits lie from bit `at` on, as the Rust's more_rbsp_data() asks. H.266 7.2 asks whether the
+ * last 1 bit lies behind bit `at`: the two differ where only zeros lie from `at` up to it, that is in data that ends in
+ * 0. */
 bool vvc_more_rbsp_data(const uint8_t *s, size_t s_len, size_t at);
 
-/* How many bits from bit `at` on are taken while more_rbsp_data() holds. */
+/* How many bits from bit `at` on are taken while vvc_more_rbsp_data holds. */
 size_t vvc_extension_bits(const uint8_t *s, size_t s_len, size_t at);
 
-/* Bit writers into `out`, high bit first. Each takes a sink and gives the one behind what it put. It stores only inside `out` and counts
- * always: the same calls over an output of 0 bytes give the exact number of bytes and any refusal, before anything is changed. */
+/* Bit writers into `out`, high bit first. Each takes a sink and gives the one behind what it put. It stores only inside
+ * `out` and counts always, also where it refuses and after a refusal: the same calls over an output of 0 bytes give the
+ * exact number of bytes and any refusal, before anything is changed. */
 
 /* A sink that has put nothing yet, for an RBSP as it is or escaped (H.266 7.4.2.1). */
 VvcSink vvc_sink(bool escape);
@@ -382,7 +408,8 @@ VvcSink vvc_put_copy(VvcSink w, uint8_t *out, size_t out_len, const uint8_t *byt
 /* rbsp_trailing_bits(), and the end of the payload. */
 VvcSink vvc_close(VvcSink w, uint8_t *out, size_t out_len);
 
-/* What the sink says of an output of `room` bytes: its refusal, 29 where they are fewer than the bytes put, or the number of these. */
+/* What the sink says of an output of `room` bytes: its refusal, 29 where they are fewer than the bytes put, or the
+ * number of these. */
 VvcByteCount vvc_sink_answer(VvcSink w, size_t room);
 
 #ifdef __cplusplus
