@@ -10,6 +10,7 @@ pub const AREA: Area = Area {
     name: "bits",
     weight: 4,
     reach: &[],
+    texts: &[],
     exhaustive: cases::exhaustive,
     random: cases::random,
 };

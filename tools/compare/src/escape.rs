@@ -9,6 +9,7 @@ pub const AREA: Area = Area {
     name: "escaping",
     weight: 4,
     reach: &[],
+    texts: &[],
     exhaustive,
     random,
 };

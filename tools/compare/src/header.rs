@@ -9,6 +9,7 @@ pub const AREA: Area = Area {
     name: "header",
     weight: 1,
     reach: &[],
+    texts: &[],
     exhaustive,
     random,
 };

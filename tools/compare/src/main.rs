@@ -3,6 +3,7 @@
 
 mod bench;
 mod bits;
+mod by_text;
 mod escape;
 mod header;
 mod ours;

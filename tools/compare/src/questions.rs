@@ -1,5 +1,5 @@
-//! The questions on a record: the tile grid, the slice plan and what the slices cover, of records that
-//! are right, changed or damaged, beside a count over blocks or tiles.
+//! The questions on a record: the tile grid, the slice plan and what the slices cover, of records
+//! that are right, changed or damaged, beside a count over blocks or tiles.
 
 mod blocks;
 mod cases;
@@ -14,7 +14,7 @@ mod second;
 mod shown;
 mod tiles;
 
-use crate::reading::Class;
+use crate::by_text::{ANYWHERE, WRITTEN_OR_ASKED, said};
 use crate::sets::Set;
 use crate::tally::{Area, Tally};
 use counted::Counted;
@@ -25,6 +25,7 @@ pub const AREA: Area = Area {
     name: "questions",
     weight: 8,
     reach: &reach::REACH,
+    texts: &[ANYWHERE, WRITTEN_OR_ASKED],
     exhaustive: cases::exhaustive,
     random: cases::random,
 };
@@ -32,10 +33,12 @@ pub const AREA: Area = Area {
 /// Pictures of so many blocks are counted block by block, larger ones tile by tile.
 const SMALL: u64 = 2000;
 
-/// The class of the number, the three answers, and whether what was lent is as before.
+/// The number, the three answers, and whether what was lent is as before.
 #[derive(Debug, PartialEq)]
 struct Answer {
-    class: Class,
+    /// Expected is here the number by the original's text, in the answers that of the second
+    /// reading.
+    by_text: u8,
     grid: Grid,
     plan: Plan,
     cover: Cover,
@@ -46,11 +49,12 @@ fn compare(set: &Set, tally: &mut Tally) {
     let Set { pps, lent } = set;
     let before = lent.clone();
     let refused = second::refusal(set);
-    let shared = original::class(set, refused);
+    let written = original::written(set, refused);
+    let shared = written.as_ref().map(|answer| tally.texts.number(answer));
     let picture = (refused == 0).then(|| Picture::of(set));
     let counted = picture.as_ref().and_then(count);
     let expected = Answer {
-        class: shared.unwrap_or(Class::of_number(refused)),
+        by_text: shared.unwrap_or(refused),
         grid: Grid::expected(refused, picture.as_ref()),
         plan: Plan::expected(refused, counted.as_ref()),
         cover: Cover::expected(refused, counted.as_ref()),
@@ -62,7 +66,7 @@ fn compare(set: &Set, tally: &mut Tally) {
     }
     let grid = lent.tile_grid(pps);
     let ours = Answer {
-        class: Class::of_number(grid.refused),
+        by_text: grid.refused,
         grid: Grid::new(&grid),
         plan: Plan::new(&lent.slice_plan(pps)),
         cover: Cover::judged(lent.cover(pps), counted.as_ref()),
@@ -72,7 +76,10 @@ fn compare(set: &Set, tally: &mut Tally) {
         original::same_sizes(set, &ours.grid, tally);
     }
     let size = pps.partition.num_rect_slices.min(1000) as usize;
-    tally.compare(&ours, &expected, size, || format!("ask {set:?}"));
+    tally.compare(&ours, &expected, size, || {
+        let written = said(written.as_ref());
+        format!("ask {set:?}; the Rust: {written}")
+    });
 }
 
 /// Which blocks lie in which slices, where slices are coded.

@@ -14,10 +14,12 @@ mod slices;
 mod tiles;
 mod units;
 
+use crate::by_text::{ANYWHERE, READ, READ_OR_WRITTEN, said};
 use crate::ours::{Pps, PpsRead};
 use crate::tally::{Area, Hex, Tally};
 use original::BitstreamError;
 use original::h266::pps::{VvcPps, parse_pps};
+use second::Second;
 
 pub use known::SMALLEST;
 pub use lent::{Form, LEAST, Lengths, Lent, Runs};
@@ -27,6 +29,7 @@ pub const AREA: Area = Area {
     name: "reading",
     weight: 10,
     reach: &reach::REACH,
+    texts: &[ANYWHERE, READ_OR_WRITTEN, READ],
     exhaustive: cases::exhaustive,
     random: cases::random,
 };
@@ -34,42 +37,12 @@ pub const AREA: Area = Area {
 /// A split count up to which the original is asked: it reads all the heights before it refuses.
 const LONGEST_SPLIT: u32 = 1 << 16;
 
-#[derive(Clone, Copy, Debug, PartialEq)]
-pub enum Class {
-    Accepted,
-    UnexpectedEnd,
-    InvalidData,
-    /// A refusal that the original does not have.
-    Added,
-    Unknown,
-}
-
-impl Class {
-    /// As the table of refusals says.
-    pub fn of_number(number: u8) -> Self {
-        match number {
-            0 => Class::Accepted,
-            1 | 22 => Class::UnexpectedEnd,
-            2 | 6..=21 | 23..=28 => Class::InvalidData,
-            3..=5 | 29 => Class::Added,
-            _ => Class::Unknown,
-        }
-    }
-
-    pub fn of_original<T>(answer: &Result<T, BitstreamError>) -> Self {
-        match answer {
-            Ok(_) => Class::Accepted,
-            Err(BitstreamError::UnexpectedEnd(_)) => Class::UnexpectedEnd,
-            Err(BitstreamError::InvalidData(_)) => Class::InvalidData,
-            Err(_) => Class::Unknown,
-        }
-    }
-}
-
-/// The answer, its extension bits, and what the bytes and tables lent hold afterwards.
+/// The answer, its number again, its extension bits, and what the bytes and tables lent hold
+/// afterwards.
 #[derive(Debug, PartialEq)]
 struct Answer<'a> {
-    class: Class,
+    /// Expected is here the number by the original's text, in `read` that of the second reading.
+    by_text: u8,
     read: PpsRead,
     extension: Runs<'a, u8>,
     nal_kept: bool,
@@ -93,13 +66,15 @@ fn compare_to(
     tally: &mut Tally,
 ) {
     let second = second::read(nal, lengths.work, lengths.tables_long());
-    let by_number = Class::of_number(second.refused);
-    let asked = by_number != Class::Added && second.seen.early_17 <= LONGEST_SPLIT;
+    let asked = !matches!(second.refused, 3..=5) && second.seen.early_17 <= LONGEST_SPLIT;
     let original = asked.then(original);
+    let by_text = original
+        .as_ref()
+        .map(|answer| number(answer, &second, tally));
 
     let mut lent = Lent::new(&lengths);
     let mut expected = Answer {
-        class: original.as_ref().map_or(by_number, Class::of_original),
+        by_text: by_text.unwrap_or(second.refused),
         read: PpsRead {
             refused: second.refused,
             ..PpsRead::default()
@@ -125,17 +100,28 @@ fn compare_to(
     let read = lent.parse_pps(&given);
     let extension = extension(&read.pps, lent.work.held());
     let ours = Answer {
-        class: Class::of_number(read.refused),
+        by_text: read.refused,
         read,
         extension: Runs(&extension),
         nal_kept: given == nal,
         lent,
     };
     tally.compare(&ours, &expected, nal.len(), || {
-        format!("read {:?} with {lengths:?}", Hex(nal))
+        let (nal, original) = (Hex(nal), said(original.as_ref()));
+        format!("read {nal:?} with {lengths:?}; the Rust: {original}")
     });
     if ours.read.refused == 0 {
         round::compare(nal, &lengths, &ours.read, &ours.lent, tally);
+    }
+}
+
+/// By the original's text. It takes a split count that is 17 at once, being below the height of the
+/// row, and goes on: it refuses one of the heights, or the slices that they make.
+fn number(original: &Result<VvcPps, BitstreamError>, second: &Second, tally: &mut Tally) -> u8 {
+    let count_refused = || said(Some(original)).contains("pps_num_exp_slices_in_tile");
+    match tally.texts.number(original) {
+        6 | 16 | 17 if second.seen.early_17 > 0 && !count_refused() => 17,
+        number => number,
     }
 }
 

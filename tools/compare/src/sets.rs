@@ -4,15 +4,16 @@
 pub mod cases;
 pub mod change;
 mod fields;
-mod known;
+pub mod known;
 pub mod laid;
 mod reach;
 mod record;
 pub mod second;
 
+use crate::by_text::{ANYWHERE, READ_OR_WRITTEN, WRITTEN, WRITTEN_OR_ASKED, said};
 use crate::escape::{GUARD, pattern};
 use crate::ours::ByteCount;
-use crate::reading::{Class, Form, Lent};
+use crate::reading::{Form, Lent};
 use crate::tally::{Area, Hex, Tally};
 use original::BitstreamError;
 use original::h266::pps::{write_pps, write_pps_nal};
@@ -23,15 +24,17 @@ pub const AREA: Area = Area {
     name: "sets",
     weight: 8,
     reach: &reach::REACH,
+    texts: &[ANYWHERE, READ_OR_WRITTEN, WRITTEN_OR_ASKED, WRITTEN],
     exhaustive: cases::exhaustive,
     random: cases::random,
 };
 
-/// The answer, whether the tables and the extension bytes are as before, and the output with the
-/// bytes behind it.
+/// The answer, its number again, whether the tables and the extension bytes are as before, and the
+/// output with the bytes behind it.
 #[derive(Debug, PartialEq)]
 struct Answer<'a> {
-    class: Class,
+    /// Expected is here the number by the original's text, in `count` that of the second reading.
+    by_text: u8,
     count: ByteCount,
     lent_kept: bool,
     out: Hex<'a>,
@@ -43,8 +46,10 @@ struct Case<'a> {
     /// What was lent, as it is to stay.
     before: &'a Lent,
     form: Form,
-    /// The number before the output is looked at.
+    /// The number before the output is looked at, by the second reading.
     refused: u8,
+    /// The same number by the original's text, or where it has no such record the one above.
+    by_text: u8,
     /// Nothing, where the original has no such record.
     original: Option<Result<Vec<u8>, BitstreamError>>,
 }
@@ -59,15 +64,18 @@ fn compare<R: IntoIterator<Item = usize>>(
     let record = (refused != 5).then(|| set.original());
     let before = set.lent.clone();
     for form in [Form::Rbsp, Form::Nal] {
+        let original = record.as_ref().map(|record| match form {
+            Form::Rbsp => write_pps(record),
+            Form::Nal => write_pps_nal(record),
+        });
+        let by_text = original.as_ref().map(|answer| tally.texts.number(answer));
         let case = Case {
             set,
             before: &before,
             form,
             refused,
-            original: record.as_ref().map(|record| match form {
-                Form::Rbsp => write_pps(record),
-                Form::Nal => write_pps_nal(record),
-            }),
+            by_text: by_text.unwrap_or(refused),
+            original,
         };
         for room in rooms(case.put().len()) {
             case.compare_in(room, tally);
@@ -90,20 +98,17 @@ impl Case<'_> {
 
     fn compare_in(&self, room: usize, tally: &mut Tally) {
         let put = self.put();
-        let refused = match self.refused {
+        let in_room = |number| match number {
             0 if room < put.len() => 29,
-            refused => refused,
+            number => number,
         };
-        let class = match &self.original {
-            Some(written) if refused != 29 => Class::of_original(written),
-            _ => Class::of_number(refused),
-        };
+        let refused = in_room(self.refused);
         let bytes = if refused == 0 { put.len() } else { 0 };
         let mut out = pattern(room + GUARD);
         let mut expected = out.clone();
         expected[..bytes].copy_from_slice(&put[..bytes]);
         let expected = Answer {
-            class,
+            by_text: in_room(self.by_text),
             count: ByteCount { refused, bytes },
             lent_kept: true,
             out: Hex(&expected),
@@ -113,14 +118,15 @@ impl Case<'_> {
         let Set { pps, lent } = self.set;
         let count = lent.write_pps(pps, self.form, &mut out[..room]);
         let ours = Answer {
-            class: Class::of_number(count.refused),
+            by_text: count.refused,
             count,
             lent_kept: lent == self.before,
             out: Hex(&out),
         };
         // The smallest output is the one to look at.
         tally.compare(&ours, &expected, put.len() + room, || {
-            format!("write {:?} with room {room}: {:?}", self.form, self.set)
+            let (form, set, original) = (self.form, self.set, said(self.original.as_ref()));
+            format!("write {form:?} with room {room}: {set:?}; the Rust: {original}")
         });
     }
 }

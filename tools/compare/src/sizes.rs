@@ -9,6 +9,7 @@ pub const AREA: Area = Area {
     name: "sizes",
     weight: 2,
     reach: &[],
+    texts: &[],
     exhaustive,
     random,
 };

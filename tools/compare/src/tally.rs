@@ -1,5 +1,6 @@
 //! What an area is, and the count of its cases and differences.
 
+use crate::by_text::{Text, Texts};
 use crate::random::Random;
 use std::fmt::{self, Debug};
 
@@ -9,6 +10,8 @@ pub struct Area {
     pub weight: u64,
     /// What its cases are to reach, each at least once.
     pub reach: &'static [&'static str],
+    /// The original's error texts, each of which they are to meet as well.
+    pub texts: &'static [&'static [Text]],
     pub exhaustive: fn(&mut Tally),
     /// Makes a random input and compares on it.
     pub random: fn(&mut Random, &mut Tally),
@@ -20,6 +23,7 @@ pub struct Tally {
     pub differences: u64,
     /// How often each of the area's `reach` was reached.
     reached: Vec<u64>,
+    pub texts: Texts,
     /// The size of the smallest input with a difference, and what to print of it.
     smallest: Option<(usize, String)>,
 }
@@ -28,6 +32,7 @@ impl Tally {
     pub fn new(area: &Area) -> Self {
         Tally {
             reached: vec![0; area.reach.len()],
+            texts: Texts::new(area.texts),
             ..Tally::default()
         }
     }
@@ -56,9 +61,9 @@ impl Tally {
         }
     }
 
-    /// Whether nothing differs and all was reached.
+    /// Whether nothing differs, all was reached and every text met.
     pub fn is_good(&self) -> bool {
-        self.differences == 0 && !self.reached.contains(&0)
+        self.differences == 0 && !self.reached.contains(&0) && self.texts.all_met()
     }
 
     pub fn print(&self, area: &Area) {
@@ -83,6 +88,7 @@ impl Tally {
         {
             println!("  NEVER REACHED: {what}");
         }
+        self.texts.print();
         if let Some((_, report)) = &self.smallest {
             println!("{report}");
         }

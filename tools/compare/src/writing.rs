@@ -11,6 +11,7 @@ pub const AREA: Area = Area {
     name: "writing",
     weight: 6,
     reach: &[],
+    texts: &[],
     exhaustive: cases::exhaustive,
     random: cases::random,
 };

@@ -1,4 +1,5 @@
-//! Writing whole sets. Ours goes over a set twice, the first time to count.
+//! Writing whole sets. Ours goes over a set once, into a short buffer of its own, and copies; only
+//! where that is too short it goes over the set again, into the output.
 
 use super::reading::records;
 use super::{LONGEST, row, time};

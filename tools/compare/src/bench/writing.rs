@@ -7,7 +7,8 @@ use original::{bit_reader::BitReader, bit_writer::BitWriter, nal};
 use std::hint::black_box;
 
 /// The time of each of `count` writes, made by our writer and by the original's, plain and escaped.
-/// Ours needs one pass where the room is known to be ample, else two, the first of which counts.
+/// Ours needs one pass where the room is known to be ample, be it the output's or a buffer's, else
+/// two, the first of which counts.
 fn writes(
     name: &str,
     count: usize,

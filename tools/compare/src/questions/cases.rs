@@ -6,6 +6,7 @@ use crate::random::Random;
 use crate::reading::{Lengths, Lent, SMALLEST, unit};
 use crate::sets::Set;
 use crate::sets::cases::{every_field, every_length, record, right};
+use crate::sets::known::every_pair;
 use crate::sets::laid::most_slices;
 use crate::tally::Tally;
 use original::h266::pps::parse_pps;
@@ -39,6 +40,7 @@ pub fn exhaustive(tally: &mut Tally) {
         random(seeded, tally);
     }
     known::all(tally);
+    every_pair(|set| compare(set, tally));
     layouts::all(tally);
     let mut records = vec![
         parse_pps(&SMALLEST).expect("the smallest set"),

@@ -1,11 +1,13 @@
-//! What the original says of the same records: its tile sizes, and the class of its refusal where it
-//! tests the same.
+//! What the original says of the same records: its tile sizes, and its refusal where it tests the
+//! same.
 
+use super::second;
 use super::shown::Grid;
-use crate::reading::{Class, Runs};
+use crate::reading::Runs;
 use crate::sets::Set;
-use crate::sets::second;
+use crate::sets::second::partition::{self, By};
 use crate::tally::Tally;
+use original::BitstreamError;
 use original::h266::pps::{VvcPps, write_pps};
 use original::h266::tile_sizes::derive_tile_sizes;
 
@@ -21,14 +23,24 @@ fn bare(set: &Set) -> VvcPps {
     }
 }
 
-/// Of writing, where it has the same number for what the questions look at.
-pub fn class(set: &Set, refused: u8) -> Option<Class> {
-    if refused == 5 {
-        return None;
-    }
-    let record = bare(set);
-    let written = Set::least(&record);
-    (second::refusal(&written) == refused).then(|| Class::of_original(&write_pps(&record)))
+/// What writing answers, where it tests the same.
+pub fn written(set: &Set, refused: u8) -> Option<Result<Vec<u8>, BitstreamError>> {
+    let asked = refused != 5 && same_tests(set);
+    asked.then(|| write_pps(&bare(set)))
+}
+
+/// Writing refuses a side of 4294967295 samples; the questions refuse flags over 1 and, beyond
+/// those, add two tests to the partition's.
+fn same_tests(set: &Set) -> bool {
+    let Set { pps, lent } = set;
+    let samples = [
+        pps.pps_pic_width_in_luma_samples,
+        pps.pps_pic_height_in_luma_samples,
+    ];
+    let tested = |by| partition::tested(pps, lent, by);
+    !samples.contains(&u32::MAX)
+        && !second::flag_over_1(pps)
+        && (pps.partition.present == 0 || tested(By::Writing) == tested(By::Questions))
 }
 
 /// The sizes of the columns and rows of a partition that is accepted, beside the original's.

@@ -3,7 +3,6 @@
 use super::counted::Counted;
 use super::picture::Picture;
 use super::second;
-use crate::reading::Class;
 use crate::sets::Set;
 use crate::sets::second::partition::{self, By};
 use crate::tally::Tally;
@@ -56,15 +55,15 @@ pub const REACH: [&str; 16 + 5 + 21] = [
     "written by the Rust",
 ];
 
-/// Of an answer, with the original's class where it tests the same.
-pub fn refused(set: &Set, refused: u8, shared: Option<Class>, tally: &mut Tally) {
+/// Of an answer, with the original's number where it tests the same.
+pub fn refused(set: &Set, refused: u8, shared: Option<u8>, tally: &mut Tally) {
     if let Some(place) = NUMBERS.iter().position(|&number| number == refused) {
         tally.reached(place);
     }
     if refused == 26 {
         tally.reached(16 + why_26(set));
     }
-    if shared == Some(Class::InvalidData) {
+    if shared.is_some_and(|number| number != 0) {
         tally.reached(21);
     }
 }
@@ -74,7 +73,7 @@ pub fn accepted(
     set: &Set,
     picture: &Picture,
     counted: Option<&Counted>,
-    shared: Option<Class>,
+    shared: Option<u8>,
     tally: &mut Tally,
 ) {
     let p = &set.pps.partition;
@@ -110,7 +109,7 @@ pub fn accepted(
         counted.is_some() && p.pps_tile_idx_delta_present_flag != 0,
         partitioned && picture.height() == 1 << 27,
         partitioned && samples.contains(&u32::MAX),
-        shared == Some(Class::Accepted),
+        shared == Some(0),
     ];
     for (i, &reached) in reached.iter().enumerate() {
         if reached {

@@ -1,6 +1,7 @@
-//! A second reading of the table of refusals (docs/BEHAVIOUR.md): which number a unit gets, how many
-//! bytes its set takes and where the extension bits lie. The original's errors have a class only, so
-//! our numbers are held to this, which is neither the library nor the original.
+//! A second reading of the table of refusals (docs/BEHAVIOUR.md): which number a unit gets, how
+//! many bytes its set takes and where the extension bits lie. It is neither the library nor the
+//! original, and speaks alone of 3 to 5, of 17 for a split count, of the bytes and of the place; of
+//! every other number the original's text has to say the same (`by_text`).
 
 mod bits;
 pub mod partition;
@@ -29,8 +30,8 @@ pub struct Seen {
     pub early_17: u32,
 }
 
-/// Reads a unit for which a work buffer of so many bytes is lent, and tables that are long enough or
-/// not.
+/// Reads a unit for which a work buffer of so many bytes is lent, and tables that are long enough
+/// or not.
 pub fn read(nal: &[u8], work_len: usize, tables_long: bool) -> Second {
     let mut second = Second {
         refused: before_fields(nal, work_len, tables_long),

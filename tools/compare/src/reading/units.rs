@@ -13,10 +13,16 @@ pub fn nal(rbsp: &[u8]) -> Vec<u8> {
     [&HEADER[..], &rbsp_to_ebsp(rbsp)].concat()
 }
 
-/// One field in `rarity` passes a limit, and noise follows it; with 0 the unit is valid.
+/// One field in `rarity` passes a limit, and noise follows it; with 0 the unit is valid. Now and
+/// then the noise starts with zeros, which are no code: they tell whether the limit is tested
+/// before the next code is read.
 pub fn unit(random: &mut Random, rarity: usize) -> Vec<u8> {
     let mut p = Put::new(random, rarity);
     if set(&mut p).is_err() {
+        if p.random.one_in(3) {
+            p.bits(0, 32);
+            p.bits(0, 32);
+        }
         for _ in 0..p.random.below(12) {
             p.any(32);
         }

@@ -46,6 +46,7 @@ pub fn exhaustive(tally: &mut Tally) {
         random(seeded, tally);
     }
     known::all(tally);
+    known::every_pair(|set| compare(set, ample, tally));
     let smallest = parse_pps(&SMALLEST).expect("the smallest set");
     let mut records = vec![smallest.clone()];
     records.extend((0..40).map(|_| record(seeded)));

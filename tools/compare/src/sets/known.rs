@@ -1,21 +1,22 @@
-//! Small sets, and the number that each is to give.
+//! Small sets with the number that each is to give, and pairs of their changes.
+
+mod changes;
 
 use super::cases::ample;
 use super::compare;
 use super::record::Set;
 use crate::reading::{Form, SMALLEST};
 use crate::tally::Tally;
-use original::h266::pps::{
-    VvcPps, VvcPpsChromaToolOffsets, VvcPpsDeblocking, VvcPpsPartition, VvcPpsRectSlice,
-    VvcPpsSubpicIdMapping, parse_pps,
-};
+use changes::{Change, PARTITIONED, UNPARTITIONED, partitioned};
+use original::h266::pps::{VvcPps, parse_pps};
 
-type Change = fn(&mut Set);
+fn smallest() -> VvcPps {
+    parse_pps(&SMALLEST).expect("the smallest set")
+}
 
 /// Compares each with the original, and our number with the one that is known.
 pub fn all(tally: &mut Tally) {
-    let smallest = parse_pps(&SMALLEST).expect("the smallest set");
-    known(&smallest, UNPARTITIONED, tally);
+    known(&smallest(), UNPARTITIONED, tally);
     known(&partitioned(), PARTITIONED, tally);
 }
 
@@ -32,126 +33,17 @@ fn known(record: &VvcPps, changes: &[(u8, Change)], tally: &mut Tally) {
     }
 }
 
-const UNPARTITIONED: &[(u8, Change)] = &[
-    (0, |_| ()),
-    (24, |s| s.pps.pps_pic_parameter_set_id = 64),
-    (24, |s| s.pps.pps_seq_parameter_set_id = 16),
-    (7, |s| s.pps.pps_pic_height_in_luma_samples = 0),
-    (25, |s| s.pps.pps_pic_width_in_luma_samples = u32::MAX),
-    (25, |s| s.pps.pps_init_qp_minus26 = i32::MIN),
-    // Flags over 1 are written as 1.
-    (0, |s| s.pps.pps_no_pic_partition_flag = 2),
-    (0, |s| s.pps.pps_cabac_init_present_flag = 255),
-    // A partition that is missing, and one that is not to be.
-    (26, |s| s.pps.pps_no_pic_partition_flag = 0),
-    (26, |s| s.pps.partition.present = 1),
-    // Fields of absent blocks are not looked at.
-    (0, |s| s.pps.partition.num_rect_slices = u32::MAX),
-    (0, |s| s.pps.deblocking.pps_luma_beta_offset_div2 = 13),
-    (20, |s| s.pps.pps_num_ref_idx_default_active_minus1_l1 = 15),
-    // Extension bits outside the bytes lent, without their flag, and of a flag without any.
-    (5, |s| s.pps.pps_extension_data_bits = 1),
-    (0, |s| s.pps.pps_extension_data_first_bit = usize::MAX),
-    (0, |s| s.pps.pps_extension_flag = 1),
-    (5, |s| {
-        s.pps.pps_extension_data_first_bit = usize::MAX;
-        s.pps.pps_extension_data_bits = usize::MAX;
-    }),
-    // 5 comes first.
-    (5, |s| {
-        s.pps.pps_pic_parameter_set_id = 64;
-        s.pps.pps_extension_data_bits = 1;
-    }),
-];
-
-/// 2 × 2 tiles of one CTB by two, N 2: tile 0 in two slices, then the rest; every block.
-fn partitioned() -> VvcPps {
-    let entry = VvcPpsRectSlice {
-        exp_slice_heights_in_ctus_minus1: Some(vec![0]),
-        ..VvcPpsRectSlice::default()
-    };
-    VvcPps {
-        pps_pic_width_in_luma_samples: 64,
-        pps_pic_height_in_luma_samples: 128,
-        subpic_id_mapping: Some(VvcPpsSubpicIdMapping {
-            pps_num_subpics_minus1: 1,
-            pps_subpic_id_len_minus1: 3,
-            pps_subpic_ids: vec![15, 0],
-        }),
-        partition: Some(VvcPpsPartition {
-            pps_tile_column_widths_minus1: vec![0],
-            pps_tile_row_heights_minus1: vec![1],
-            pps_rect_slice_flag: 1,
-            pps_num_slices_in_pic_minus1: 2,
-            rect_slices: vec![entry],
-            ..VvcPpsPartition::default()
-        }),
-        chroma_tool_offsets: Some(VvcPpsChromaToolOffsets {
-            cu_chroma_qp_offset_list: Some(vec![(-12, 12, None)]),
-            ..VvcPpsChromaToolOffsets::default()
-        }),
-        deblocking: Some(VvcPpsDeblocking::default()),
-        pps_extension_flag: 1,
-        pps_extension_data: vec![0, 1],
-        ..VvcPps::default()
+/// Both sets with any two of the changes: of two tests that refuse, the first gives the number.
+pub fn every_pair(mut compare: impl FnMut(&Set)) {
+    let changes = [UNPARTITIONED, PARTITIONED].concat();
+    for record in [smallest(), partitioned()] {
+        for (i, (_, first)) in changes.iter().enumerate() {
+            for (_, second) in &changes[i + 1..] {
+                let mut set = Set::least(&record);
+                first(&mut set);
+                second(&mut set);
+                compare(&set);
+            }
+        }
     }
-}
-
-const PARTITIONED: &[(u8, Change)] = &[
-    (0, |_| ()),
-    (8, |s| s.pps.subpic_id_mapping.pps_num_subpics_minus1 = 1000),
-    (8, |s| s.pps.subpic_id_mapping.pps_subpic_id_len_minus1 = 16),
-    (27, |s| s.pps.subpic_id_mapping.num_subpic_ids = 1),
-    (27, |s| s.lent.subpic_ids.lent()[0] = 16),
-    (5, |s| s.pps.subpic_id_mapping.num_subpic_ids = 1001),
-    (9, |s| s.pps.partition.pps_log2_ctu_size_minus5 = 3),
-    (10, |s| s.pps.partition.num_tile_row_heights = 0),
-    (5, |s| s.pps.partition.num_tile_column_widths = 31),
-    (11, |s| s.lent.tile_row_heights.lent()[0] = 4),
-    (12, |s| {
-        s.pps.partition.num_tile_row_heights = 2;
-        s.lent.tile_row_heights.lent()[1] = 2;
-    }),
-    (13, |s| s.pps.pps_pic_width_in_luma_samples = 31 * 32),
-    (14, |s| s.pps.partition.pps_num_slices_in_pic_minus1 = 1000),
-    (15, |s| s.lent.slice_widths.lent()[0] = 2),
-    (16, |s| s.lent.split_counts.lent()[0] = 2),
-    (16, |s| s.lent.split_heights.lent()[0] = 2),
-    (17, |s| s.lent.tile_row_heights.lent()[0] = 3),
-    // The last slice is one of the split.
-    (0, |s| s.pps.partition.pps_num_slices_in_pic_minus1 = 1),
-    (18, |s| deltas(s, 0)),
-    (18, |s| deltas(s, 4)),
-    (18, |s| deltas(s, -1)),
-    (0, |s| deltas(s, 3)),
-    (25, |s| deltas(s, i32::MIN)),
-    // One row, and a slice of all its tiles.
-    (19, |s| {
-        s.lent.tile_row_heights.lent()[0] = 3;
-        s.lent.slice_widths.lent()[0] = 1;
-        s.lent.split_present.lent()[0] = 0;
-    }),
-    (5, |s| s.lent.split_counts.lent()[0] = 1001),
-    (26, |s| s.lent.split_present.lent()[0] = 0),
-    (26, |s| s.lent.delta_present.lent()[0] = 1),
-    (26, |s| s.pps.partition.pps_tile_idx_delta_present_flag = 1),
-    (26, |s| s.pps.partition.num_rect_slices = 0),
-    (26, |s| {
-        s.pps.partition.num_rect_slices = 2;
-        s.lent.split_present.lent()[1] = 0;
-    }),
-    (5, |s| s.pps.partition.num_rect_slices = 1000),
-    (21, |s| s.lent.triples[0][1] = 13),
-    (0, |s| s.lent.triples[0][2] = 13),
-    (21, |s| {
-        s.pps.chroma_tool_offsets.cu_chroma_qp_offset_list_len = 7
-    }),
-    (26, |s| s.pps.pps_extension_flag = 0),
-    (28, |s| s.pps.pps_extension_data_bits = 1),
-];
-
-fn deltas(s: &mut Set, delta: i32) {
-    s.pps.partition.pps_tile_idx_delta_present_flag = 1;
-    s.lent.delta_present.lent()[0] = 1;
-    s.lent.deltas.lent()[0] = delta;
 }

@@ -1,6 +1,6 @@
-//! A second reading of the table of refusals (docs/BEHAVIOUR.md), for writing: which number a set gets
-//! before the output is looked at. The original's errors have a class only, so our numbers are held to
-//! this, which is neither the library nor the original.
+//! A second reading of the table of refusals (docs/BEHAVIOUR.md), for writing: which number a set
+//! gets before the output is looked at. It is neither the library nor the original, and speaks
+//! alone of 5; of every other number the original's text has to say the same (`by_text`).
 
 pub mod partition;
 
