@@ -1,5 +1,5 @@
--- more_rbsp_data() as the Rust has it, and the bits of pps_extension_data_flag that are taken while it holds. H.266 7.2 takes every bit
--- before the last 1; the two differ where the data ends in 0 (docs/DIFFERENCES.md, 11).
+-- more_rbsp_data() as the Rust has it, and the bits of pps_extension_data_flag that are taken while it holds. H.266 7.2
+-- takes every bit before the last 1; the two differ where the data ends in 0 (docs/DIFFERENCES.md, 11).
 use Prim.Native.Nat.{ℕ, zero, suc, _+_, _-_, _≤_, _<_}
 use mathlib.Core.Path.{_≡_, refl, ap, _∙_}
 use mathlib.Core.List.{List}

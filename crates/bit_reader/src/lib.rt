@@ -9,8 +9,9 @@ ghost use Rattle.bit_reader.specs.Extension.{moreRbspData, extensionBits
 
 pub mod guarded;
 
-// The place of the next bit, counted from the high bit of the first byte, and the number of the first refusal (0: none). It is handed on
-// field by field: a copy of the whole moves the bytes between its fields too, and in a loop those moves wait for each other.
+// The place of the next bit, counted from the high bit of the first byte, and the number of the first refusal (0: none).
+// It is handed on field by field: a copy of the whole moves its padding too, and in a loop those moves wait for each
+// other.
 #[repr(C)]
 pub struct Cursor {
     pub at: usize,

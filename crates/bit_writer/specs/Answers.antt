@@ -1,5 +1,5 @@
--- What a writer of bytes answers and leaves in its output; 29 is the number for an output shorter than the bytes. A run over any other bytes
--- counts and finds any refusal first, so that a refused write changes nothing.
+-- What a writer of bytes answers and leaves in its output; 29 is the number for an output shorter than the bytes. A run
+-- over any other bytes counts and finds any refusal first, so that a refused write changes nothing.
 use Prim.Native.Nat.{ℕ, _≤_, _<_, _^_, min}
 use native.Mathlib.Omega.{arith}
 use mathlib.Core.Bool.{Bool, true, false, cond}

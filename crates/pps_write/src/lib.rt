@@ -23,8 +23,8 @@ fn bits_inside(first: usize, count: usize, len: usize) -> bool
     first / 8 + count / 8 + (first % 8 + count % 8 + 7) / 8 <= len
 }
 
-// A run over bytes of its own finds any refusal and counts the bytes, so that a refused write changes nothing. What fits there is copied;
-// a longer set is put by a second run.
+// A run over bytes of its own finds any refusal and counts the bytes, so that a refused write changes nothing. What fits
+// there is copied; a longer set is put by a second run.
 fn write_counted(
     nal: bool,
     pps: VvcPps,

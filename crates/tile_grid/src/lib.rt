@@ -44,7 +44,8 @@ pub struct TileGrid {
     pub row_heights: [u32; 990],
 }
 
-// A refusal, or 0 and the grid. The grid stands first: behind a byte its 4 KB would start 4 bytes in, and a copy of them take 20 times as long.
+// A refusal, or 0 and the grid. The grid stands first: after a byte its 4 KB would start 4 bytes in, and a copy of them
+// take 20 times as long.
 pub struct GridAnswer {
     pub grid: TileGrid,
     pub refused: u8,
