@@ -1,25 +1,44 @@
--- What reading answers, as docs/BEHAVIOUR.md has it: the record and the bytes taken, or the number of a refusal.
+-- What reading answers, as docs/BEHAVIOUR.md has it: the record, the triples beside it and the bytes taken, or the
+-- number of a refusal.
 use Prim.Native.Nat.{ℕ, _/_}
 use mathlib.Core.Path.{_≡_}
-use mathlib.Core.Bool.{cond}
+use mathlib.Core.List.{List}
+use mathlib.Core.Bool.{Bool, true, false, cond}
 use lib.Dec.{eqb}
 use borrow.Author.Tests.{eq-eqb, ne-eqb}
 use Rattle.pps_record.specs.declared.VvcPps.{VvcPps}
 use Rattle.pps_record.specs.declared.VvcPpsPartition.{VvcPpsPartition}
+use Rattle.pps_record.specs.declared.VvcQpOffsets.{VvcQpOffsets}
 use Rattle.pps_parts.specs.declared.FrontRead.{FrontRead}
 use Rattle.pps_parts.specs.declared.BackRead.{BackRead}
 use Rattle.pps_parts.specs.declared.end.EndRead.{EndRead}
-use Rattle.pps_syntax.specs.Rbsp.{ReadAnswer, accepted, refused}
-use Rattle.pps_syntax.specs.Record.{recordOf}
+use Rattle.pps_syntax.specs.Rbsp.{ReadSet, ReadAnswer, accepted, refused}
+use Rattle.pps_syntax.specs.Record.{recordOf, noTriples, triplesOf}
 use Rattle.pps_answer.specs.declared.PpsRead.{PpsRead}
-use Rattle.pps_answer.specs.declared.PpsRead.the-variants.{Accepted, Refused}
+use Rattle.pps_answer.specs.declared.PpsAnswer.{PpsAnswer}
+use Rattle.pps_answer.specs.declared.PpsAnswer.the-variants.{Accepted, Refused}
 
-abbrev pub acceptedPps : VvcPps → ℕ → PpsRead
-acceptedPps pps taken = Accepted (record { pps = pps; «bytes_taken» = taken })
+abbrev pub acceptedPps : VvcPps → List VvcQpOffsets → ℕ → PpsRead
+acceptedPps pps triples taken =
+    record { answer = Accepted (record { pps = pps; «bytes_taken» = taken }); triples = triples }
+
+abbrev pub refusedPps : ℕ → PpsRead
+refusedPps n = record { answer = Refused n; triples = noTriples }
+
+unfoldable pub isAccepted : PpsAnswer → Bool
+isAccepted (Accepted a) = true
+isAccepted (Refused n) = false
+
+-- the record of a set that was read, and the triples beside it
+abbrev pub recordRead : ReadSet → VvcPps
+recordRead a = recordOf (a .set) (a .extensionFirstBit) (a .extensionCount)
+
+abbrev pub triplesRead : ReadSet → List VvcQpOffsets
+triplesRead a = triplesOf (a .set .back .chroma .list)
 
 unfoldable pub answerOf : ReadAnswer → PpsRead
-answerOf (accepted a) = acceptedPps (recordOf (a .set) (a .extensionFirstBit) (a .extensionCount)) (a .bytesTaken)
-answerOf (refused n) = Refused n
+answerOf (accepted a) = acceptedPps (recordRead a) (triplesRead a) (a .bytesTaken)
+answerOf (refused n) = refusedPps n
 
 -- ---- from the parts as they were read
 -- no extension bits start at 0
@@ -67,8 +86,8 @@ recordFrom f p b first bits =
 unfoldable pub answerFrom : FrontRead → VvcPpsPartition → BackRead → EndRead → PpsRead
 answerFrom f p b e =
     cond (eqb (e .next .refused) 0)
-    (acceptedPps (recordFrom f p b (firstBit (e .bits) (b .next .at)) (e .bits)) (e .next .at / 8))
-    (Refused (e .next .refused))
+    (acceptedPps (recordFrom f p b (firstBit (e .bits) (b .next .at)) (e .bits)) (b .triples) (e .next .at / 8))
+    (refusedPps (e .next .refused))
 
 -- one law for each way out
 pub first-none : (bits at : ℕ) → bits ≡ 0 → 0 ≡ firstBit bits at
@@ -80,10 +99,11 @@ unfolding firstBit
 first-some bits at e = rw (ne-eqb bits 0 e)
 
 module _ (f : FrontRead) (p : VvcPpsPartition) (b : BackRead) (e : EndRead) where
-  pub answer-refused : (e .next .refused ≡ 0 → ⊥) → Refused (e .next .refused) ≡ answerFrom f p b e
+  pub answer-refused : (e .next .refused ≡ 0 → ⊥) → refusedPps (e .next .refused) ≡ answerFrom f p b e
   unfolding answerFrom
   answer-refused h = rw (ne-eqb (e .next .refused) 0 h)
 
-  pub answer-accepted : {first : ℕ} → e .next .refused ≡ 0 → first ≡ firstBit (e .bits) (b .next .at) → acceptedPps (recordFrom f p b first (e .bits)) (e .next .at / 8) ≡ answerFrom f p b e
+  pub answer-accepted : {first : ℕ} → e .next .refused ≡ 0 → first ≡ firstBit (e .bits) (b .next .at)
+      → acceptedPps (recordFrom f p b first (e .bits)) (b .triples) (e .next .at / 8) ≡ answerFrom f p b e
   unfolding answerFrom
   answer-accepted h i = rw (eq-eqb (e .next .refused) 0 h, i)

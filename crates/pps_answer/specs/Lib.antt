@@ -1,3 +1,4 @@
 pub mod Lending
 pub mod Before
 pub mod Answers
+pub mod ParsePps

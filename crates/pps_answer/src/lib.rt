@@ -1,11 +1,12 @@
 // What reading answers.
 ghost use mathlib.Core.Path.{_≡_};
-ghost use Rattle.pps_answer.specs.Answers.{firstBit, answerFrom};
+ghost use Rattle.pps_answer.specs.Answers.{refusedPps, isAccepted, firstBit, answerFrom};
 use pps_parts::BackRead;
 use pps_parts::FrontRead;
 use pps_parts::end::EndRead;
 use pps_record::VvcPps;
 use pps_record::VvcPpsPartition;
+use pps_record::VvcQpOffsets;
 
 pub mod before;
 pub mod clear;
@@ -16,9 +17,38 @@ pub struct AcceptedPps {
     pub bytes_taken: usize,
 }
 
-pub enum PpsRead {
+pub enum PpsAnswer {
     Accepted(AcceptedPps),
     Refused(u8),
+}
+
+// The triples of the chroma list stand beside the answer, since an enum can't hold an array: those in use, then zeros.
+// All are zeros after a refusal.
+pub struct PpsRead {
+    pub answer: PpsAnswer,
+    pub triples: [VvcQpOffsets; 6],
+}
+
+impl PpsRead {
+    // A refusal, with zeros for triples.
+    pub fn refused(number: u8) -> PpsRead
+        ensures { λ r. ⌜ r ≡ refusedPps number ⌝ }
+    {
+        PpsRead {
+            answer: PpsAnswer::Refused(number),
+            triples: [VvcQpOffsets([0, 0, 0]); 6],
+        }
+    }
+
+    pub fn is_accepted(self) -> bool
+        ensures { λ r. ⌜ r ≡ isAccepted (self .answer) ⌝ }
+    {
+        let answer = self.answer;
+        match answer {
+            PpsAnswer::Accepted(_a) => true,
+            PpsAnswer::Refused(_number) => false,
+        }
+    }
 }
 
 fn first_bit(bits: usize, at: usize) -> usize
@@ -30,7 +60,7 @@ fn first_bit(bits: usize, at: usize) -> usize
     at
 }
 
-// The record of the parts, unless something was refused.
+// The record and the triples of the parts, unless something was refused.
 pub fn answer_of(
     front: FrontRead,
     partition: VvcPpsPartition,
@@ -41,7 +71,7 @@ pub fn answer_of(
 {
     let next = end.next;
     if next.refused != 0 {
-        return PpsRead::Refused(next.refused);
+        return PpsRead::refused(next.refused);
     }
     let behind = back.next;
     let pps_extension_data_first_bit = first_bit(end.bits, behind.at);
@@ -89,8 +119,13 @@ pub fn answer_of(
         pps_extension_data_first_bit,
         pps_extension_data_bits: end.bits,
     };
-    PpsRead::Accepted(AcceptedPps {
+    let accepted = AcceptedPps {
         pps,
         bytes_taken: next.at / 8,
-    })
+    };
+    let triples = back.triples;
+    PpsRead {
+        answer: PpsAnswer::Accepted(accepted),
+        triples,
+    }
 }

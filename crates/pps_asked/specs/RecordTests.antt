@@ -11,7 +11,6 @@ use Rattle.partition.specs.Checks.{fine, firstBad, AllPass, passed}
 use Rattle.partition.specs.Grid.{tiles}
 use Rattle.partition.specs.Partition.{tileGrid}
 use Rattle.pps_answer.specs.Lending.{filled}
-use Rattle.pps_record.specs.declared.VvcPps.{VvcPps}
 use Rattle.pps_round.specs.LentBack.{set-few, filled-long, filled-fit}
 use Rattle.pps_round.specs.SetBack.{Long, present-back}
 use Rattle.pps_syntax.specs.FromRecord.{Lent, tablesLong, countsFit}
@@ -22,25 +21,11 @@ use Rattle.pps_syntax.specs.Pps.{Pps, front, pps, partitioned, picWidth, picHei
 use Rattle.pps_syntax.specs.Record.{partitionRecord, recordOf}
 use Rattle.pps_syntax.specs.SameTests.{_⨟_}
 use Rattle.question_tests.specs.Questions.{flagOver1, recordChecks}
-use Rattle.question_tests.specs.Tables.{lent}
 use Rattle.syntax.specs.Elements.{flag, absent, sameℕ, isSet, oneIf, orElse}
 use Rattle.syntax.specs.Facts.{Facts, facts}
 use Rattle.syntax.specs.Lists.{many, none, not-true}
 use Rattle.syntax.specs.Round.{and-parts, refusal-parts}
 use Rattle.syntax.specs.Syntax.{_>>=_, symbolsFor, refusalFor, canonicalFor}
-
--- The tables as the questions take them: all but the triples of the chroma offsets.
-abbrev pub asked : Lent → Lent
-asked t = lent (t .subpicIds) (t .columnWidths) (t .rowHeights) (t .slices)
-
--- ---- 5
-asked-long : (t : Lent) → tablesLong (asked t) ≡ tablesLong t
-unfolding tablesLong
-asked-long t = refl
-
-asked-fit : (r : VvcPps) (t : Lent) → countsFit r (asked t) ≡ countsFit r t
-unfolding countsFit
-asked-fit r t = refl
 
 -- ---- 7
 neither : (a b : Bool) → (not a && not b) ≡ true → (a || b) ≡ false
@@ -94,10 +79,10 @@ and-false false = refl
 
 -- ---- all
 module _ (r : Pps) (h : refusalFor pps r ≡ 0) (c : canonicalFor pps r ≡ true) (fit : ListsFit r) (t : Lent) (long : Long t) (first bits : ℕ) where
-  lent-passes : not (tablesLong (asked (filled r t)) && countsFit (recordOf r first bits) (asked (filled r t))) ≡ false
+  lent-passes : not (tablesLong (filled r t) && countsFit (recordOf r first bits) (filled r t)) ≡ false
   lent-passes =
       let few = set-few r h c fit in
-      rw (asked-long (filled r t), asked-fit (recordOf r first bits) (filled r t), filled-long r t long (fit .subpic-ids) few, filled-fit r t first bits long (fit .subpic-ids) few)
+      rw (filled-long r t long (fit .subpic-ids) few, filled-fit r t first bits long (fit .subpic-ids) few)
 
   flags-pass : (isSet (partitionRecord (r .partitionPresent) (r .partition) .present) && flagOver1 (partitionRecord (r .partitionPresent) (r .partition))) ≡ false
   unfolding pps Facts _>>=_
@@ -110,14 +95,14 @@ module _ (r : Pps) (h : refusalFor pps r ≡ 0) (c : canonicalFor pps r ≡ true
   presence-passes =
       rw (present-back (r .partitionPresent) (r .partition)) (present-where (r .partitionPresent) (r .front .kind .«pps_no_pic_partition_flag») (facts pps r h c .1 .0 .1))
 
-  pub tests-pass : firstBad (recordChecks (recordOf r first bits) (asked (filled r t))) ≡ fine
+  pub tests-pass : firstBad (recordChecks (recordOf r first bits) (filled r t)) ≡ fine
   unfolding recordChecks recordOf AllPass pps front head kind Facts _>>=_
   tests-pass =
       let f = facts pps r h c .0 in
       let a = facts front (r .front) (f .0) (f .1) in
       let size = facts head (r .front .head) (a .0 .0) (a .0 .1) .1 .1 .1 .1 .1 .1 .0 in
       let unpartitioned = facts kind (r .front .kind) (a .1 .1 .1 .0 .0) (a .1 .1 .1 .0 .1) .1 .0 .1 in
-      passed (recordChecks (recordOf r first bits) (asked (filled r t)))
+      passed (recordChecks (recordOf r first bits) (filled r t))
       (lent-passes
       ⨟ neither (eqb (picWidth (r .front)) 0) (eqb (picHeight (r .front)) 0) size
       ⨟ low-flag (r .front .kind .«pps_no_pic_partition_flag») unpartitioned

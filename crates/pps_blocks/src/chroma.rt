@@ -1,13 +1,11 @@
-// The chroma tool offsets block. The triples of its list go into six arrays of three, beside the record.
-ghost use mathlib.Core.List.{map};
+// The chroma tool offsets block. The triples of its list stand beside the record.
 ghost use mathlib.Core.Path.{_≡_};
 ghost use lib.ListN.{length, set};
-ghost use lib.Seq.{sets};
 ghost use Rattle.syntax.specs.Element.{parsed};
 ghost use Rattle.syntax.specs.Lists.{many};
 ghost use Rattle.syntax.specs.Syntax.{parse};
 ghost use Rattle.pps_syntax.specs.Chroma.{triple, tripleElement, chroma};
-ghost use Rattle.pps_syntax.specs.Record.{rowOf, chromaOf};
+ghost use Rattle.pps_syntax.specs.Record.{chromaOf, offsetsOf, triplesOf};
 ghost use Rattle.pps_blocks.specs.Triples.{tripleOf};
 use super::counted;
 use bit_reader::Cursor;
@@ -15,8 +13,8 @@ use bit_reader::flag;
 use bit_reader::guarded::flag_or;
 use pps_fields::fields::offset_or;
 use pps_fields::fields::ue_at_most;
-use pps_fields::lists::ListRead;
 use pps_record::VvcPpsChromaToolOffsets;
+use pps_record::VvcQpOffsets;
 
 pub struct TripleRead {
     pub cb: i32,
@@ -41,45 +39,53 @@ fn read_triple(s: &[u8], with_joint: bool, c: Cursor) -> TripleRead
     }
 }
 
-// Array i becomes the triple; nothing, where there are fewer.
-fn store(triples: &mut [[i32; 3]], i: u32, t: TripleRead)
-    ensures { λ _. ⌜ now (triples .exit) ≡ set (now (triples .entry)) i (rowOf (tripleOf t)) ⌝ }
+// Triple i becomes another; nothing, where there are fewer.
+fn stored(triples: [VvcQpOffsets; 6], i: u32, t: TripleRead) -> [VvcQpOffsets; 6]
+    ensures { λ r. ⌜ r ≡ set triples i (offsetsOf (tripleOf t)) ⌝ }
 {
     let k = i as usize;
-    if triples.len() <= k {
-        return;
+    if k >= 6 {
+        return triples;
     }
     let row = [t.cb, t.cr, t.joint];
-    triples[k] = row;
+    let mut more = triples;
+    more[k] = VvcQpOffsets(row);
+    more
 }
 
-// `count` triples, from the first array on.
-fn read_triples(
-    s: &[u8],
-    count: u32,
-    with_joint: bool,
-    triples: &mut [[i32; 3]],
-    c: Cursor,
-) -> ListRead
+pub struct TriplesRead {
+    pub triples: [VvcQpOffsets; 6],
+    pub count: u32,
+    pub next: Cursor,
+}
+
+// `count` triples, then zeros.
+fn read_triples(s: &[u8], count: u32, with_joint: bool, c: Cursor) -> TriplesRead
     ensures next { λ r. ⌜ r .next ≡ many count (tripleElement «with_joint») 21 .read (now (s .entry)) c .next ⌝ }
-    ensures count { λ r. ⌜ r .count ≡ length (many count (tripleElement «with_joint») 21 .read (now (s .entry)) c .value) ⌝ }
-    ensures table { λ _. ⌜ now (triples .exit) ≡ sets (now (triples .entry)) 0 (map rowOf (many count (tripleElement «with_joint») 21 .read (now (s .entry)) c .value)) ⌝ }
+    ensures count { λ r.
+        ⌜ r .count ≡ length (many count (tripleElement «with_joint») 21 .read (now (s .entry)) c .value) ⌝ }
+    ensures triples { λ r.
+        ⌜ r .triples ≡ triplesOf (many count (tripleElement «with_joint») 21 .read (now (s .entry)) c .value) ⌝ }
 {
+    let mut triples = [VvcQpOffsets([0, 0, 0]); 6];
     let mut cur = c;
     let mut i: u32 = 0;
     while i < count {
         let t = read_triple(s, with_joint, cur);
         cur = t.next;
         if cur.refused != 0 {
-            return ListRead {
+            return TriplesRead {
+                triples,
                 count: i,
                 next: cur,
             };
         }
-        store(triples, i, t);
+        let more = stored(triples, i, t);
+        triples = more;
         i += 1;
     }
-    ListRead {
+    TriplesRead {
+        triples,
         count: i,
         next: cur,
     }
@@ -87,14 +93,15 @@ fn read_triples(
 
 pub struct ChromaRead {
     pub value: VvcPpsChromaToolOffsets,
+    pub triples: [VvcQpOffsets; 6],
     pub next: Cursor,
 }
 
 // 21 for an offset outside −12 to 12 and for a list of more than six.
-pub fn read_chroma(s: &[u8], triples: &mut [[i32; 3]; 6], c: Cursor) -> ChromaRead
+pub fn read_chroma(s: &[u8], c: Cursor) -> ChromaRead
     ensures value { λ r. ⌜ r .value ≡ chromaOf (parse chroma (now (s .entry)) c .value) ⌝ }
     ensures next { λ r. ⌜ r .next ≡ parse chroma (now (s .entry)) c .next ⌝ }
-    ensures table { λ _. ⌜ now (triples .exit) ≡ sets (now (triples .entry)) 0 (map rowOf (parse chroma (now (s .entry)) c .value .list)) ⌝ }
+    ensures triples { λ r. ⌜ r .triples ≡ triplesOf (parse chroma (now (s .entry)) c .value .list) ⌝ }
 {
     let present = flag(s, c);
     let on = present.value != 0;
@@ -108,7 +115,8 @@ pub fn read_chroma(s: &[u8], triples: &mut [[i32; 3]; 6], c: Cursor) -> ChromaRe
     let listed = on & (enabled.value != 0);
     let len = ue_at_most(s, listed, 5, 21, enabled.next);
     let count = counted(listed, len.value);
-    let list = read_triples(s, count, with_joint, &mut triples[..], len.next);
+    let list = read_triples(s, count, with_joint, len.next);
+    let triples = list.triples;
     let next = list.next;
     ChromaRead {
         value: VvcPpsChromaToolOffsets {
@@ -121,6 +129,7 @@ pub fn read_chroma(s: &[u8], triples: &mut [[i32; 3]; 6], c: Cursor) -> ChromaRe
             pps_cu_chroma_qp_offset_list_enabled_flag: enabled.value,
             cu_chroma_qp_offset_list_len: list.count,
         },
+        triples,
         next,
     }
 }

@@ -1,4 +1,4 @@
-// The readers of the blocks of a picture parameter set (the Rust's parse_pps): those with a list in a lent table, and the deblocking block.
+// The readers of the blocks of a picture parameter set (the Rust's parse_pps) that stand around the partition block.
 ghost use mathlib.Core.Bool.{cond};
 ghost use mathlib.Core.Path.{_≡_};
 ghost use Prim.Native.Nat.{_+_, _<_};

@@ -1,68 +1,58 @@
-// What is lent beside a record to be written or asked about: tables at their stated lengths, and counts that they hold (docs/BEHAVIOUR.md, 5).
+// What is lent beside a record to be written or asked about: tables at their stated lengths, and counts that they hold
+// (docs/BEHAVIOUR.md, 5).
 ghost use mathlib.Core.Bool.{_&&_};
-ghost use mathlib.Core.List.{[]};
 ghost use mathlib.Core.Path.{_≡_};
 ghost use lib.Dec.{leb};
+ghost use Prim.Native.Nat.{_+_, min};
+ghost use Rattle.partition.specs.Grid.{maxSlices};
 ghost use Rattle.pps_syntax.specs.FromRecord.{tablesLong, countsFit};
-ghost use Rattle.pps_syntax.specs.SliceTables.{sliceTables, splitCount, splitTotal};
-ghost use Rattle.pps_lent.specs.Tables.{lent, splitTables, splitLent, partitionFits};
+ghost use Rattle.pps_syntax.specs.SliceTables.{splitCount, splitTotal};
+ghost use Rattle.pps_tables.specs.Parameters.{before};
+ghost use Rattle.pps_lent.specs.Tables.{splitTables, splitLent, partitionFits};
 use pps_record::VvcPps;
 use pps_record::VvcPpsPartition;
-use pps_record::lengths::RECT_SLICES;
-use pps_record::lengths::SPLIT_HEIGHTS;
 use pps_record::lengths::SUBPIC_IDS;
-use pps_record::lengths::TILE_COLUMN_WIDTHS;
-use pps_record::lengths::TILE_ROW_HEIGHTS;
-use tables::places::at_u8;
-use tables::places::at_u32;
-
-// By their lengths, in the order in which the tables are lent.
-fn slices_long(
-    widths: usize,
-    heights: usize,
-    split_present: usize,
-    split_counts: usize,
-    delta_present: usize,
-    deltas: usize,
-    split_heights: usize,
-) -> bool
-    ensures { λ r. ⌜ r ≡ (leb 999 widths && (leb 999 heights && (leb 999 «split_present» && (leb 999 «split_counts» && (leb 999 «delta_present» && (leb 999 deltas && leb 1000 «split_heights»)))))) ⌝ }
-{
-    (widths >= RECT_SLICES)
-        & ((heights >= RECT_SLICES)
-            & ((split_present >= RECT_SLICES)
-                & ((split_counts >= RECT_SLICES)
-                    & ((delta_present >= RECT_SLICES)
-                        & ((deltas >= RECT_SLICES) & (split_heights >= SPLIT_HEIGHTS))))))
-}
-
-fn tables_long(subpic_ids: usize, columns: usize, rows: usize, slices: bool) -> bool
-    ensures { λ r. ⌜ r ≡ (leb 1000 «subpic_ids» && (leb 30 columns && (leb 990 rows && slices))) ⌝ }
-{
-    (subpic_ids >= SUBPIC_IDS)
-        & ((columns >= TILE_COLUMN_WIDTHS) & ((rows >= TILE_ROW_HEIGHTS) & slices))
-}
+use pps_tables::ENTRY_LEN;
+use pps_tables::entry_at;
+use pps_tables::tables_long;
+use tile_sizes::MAX_NUM_SLICES_MINUS1;
+use tile_sizes::MAX_SLICES;
+use tile_sizes::MAX_TILE_COLUMNS;
+use tile_sizes::MAX_TILES;
 
 // How many split heights entry `i` has: none where its split part is absent.
-pub fn split_count(split_present: &[u8], split_counts: &[u32], i: u32) -> u32
-    ensures { λ r. ⌜ r ≡ splitCount (splitTables (now («split_present» .entry)) (now («split_counts» .entry))) i ⌝ }
+pub fn split_count(entries: &[[u32; ENTRY_LEN]], i: u32) -> u32
+    ensures { λ r. ⌜ r ≡ splitCount (splitTables (now (entries .entry))) i ⌝ }
 {
-    let present = at_u8(split_present, i);
-    let count = at_u32(split_counts, i);
-    if present == 0 {
+    let e = entry_at(entries, i);
+    if e.split_present == 0 {
         return 0;
     }
-    count
+    e.split_count
+}
+
+// The place behind so many more, in a table of this length.
+pub fn place_after(length: usize, from: usize, count: u32) -> usize
+    ensures { λ r. ⌜ r ≡ min length (from + count) ⌝ }
+{
+    let n = count as usize;
+    if from >= length {
+        return length;
+    }
+    if n >= length - from {
+        return length;
+    }
+    from + n
 }
 
 // The split counts of the first `n` entries don't sum past their table.
-fn split_total_fits(split_present: &[u8], split_counts: &[u32], n: u32) -> bool
-    ensures { λ r. ⌜ r ≡ leb (splitTotal (splitTables (now («split_present» .entry)) (now («split_counts» .entry))) 0 n) 1000 ⌝ }
+fn split_total_fits(entries: &[[u32; ENTRY_LEN]], n: u32) -> bool
+    ensures { λ r. ⌜ r ≡ leb (splitTotal (splitTables (now (entries .entry))) 0 n) maxSlices ⌝ }
 {
-    let mut left: u32 = 1000;
+    let mut left: u32 = MAX_SLICES;
     let mut i: u32 = 0;
     while i < n {
-        let c = split_count(split_present, split_counts, i);
+        let c = split_count(entries, i);
         if left < c {
             return false;
         }
@@ -73,27 +63,28 @@ fn split_total_fits(split_present: &[u8], split_counts: &[u32], n: u32) -> bool
 }
 
 // The counts of a present partition.
-fn counts_within(p: VvcPpsPartition, split_present: &[u8], split_counts: &[u32]) -> bool
-    ensures { λ r. ⌜ r ≡ partitionFits p (splitTables (now («split_present» .entry)) (now («split_counts» .entry))) ⌝ }
+fn counts_within(p: VvcPpsPartition, entries: &[[u32; ENTRY_LEN]]) -> bool
+    ensures { λ r. ⌜ r ≡ partitionFits p (splitTables (now (entries .entry))) ⌝ }
 {
     let n = p.num_rect_slices;
-    let sized = (p.num_tile_column_widths <= 30) & ((p.num_tile_row_heights <= 990) & (n <= 999));
+    let sized = (p.num_tile_column_widths <= MAX_TILE_COLUMNS)
+        & ((p.num_tile_row_heights <= MAX_TILES) & (n <= MAX_NUM_SLICES_MINUS1));
     if sized {
-        return split_total_fits(split_present, split_counts, n);
+        return split_total_fits(entries, n);
     }
     false
 }
 
-fn counts_fit(pps: VvcPps, split_present: &[u8], split_counts: &[u32]) -> bool
-    ensures { λ r. ⌜ r ≡ countsFit pps (splitLent (now («split_present» .entry)) (now («split_counts» .entry))) ⌝ }
+fn counts_fit(pps: VvcPps, entries: &[[u32; ENTRY_LEN]]) -> bool
+    ensures { λ r. ⌜ r ≡ countsFit pps (splitLent (now (entries .entry))) ⌝ }
 {
     let m = pps.subpic_id_mapping;
     let p = pps.partition;
-    let ids = (m.present == 0) | (m.num_subpic_ids <= 1000);
+    let ids = (m.present == 0) | (m.num_subpic_ids as usize <= SUBPIC_IDS);
     if p.present == 0 {
         return ids;
     }
-    let within = counts_within(p, split_present, split_counts);
+    let within = counts_within(p, entries);
     ids & within
 }
 
@@ -103,31 +94,20 @@ pub fn lent_fits(
     subpic_ids: &[u32],
     tile_column_widths: &[u32],
     tile_row_heights: &[u32],
-    widths: &[u32],
-    heights: &[u32],
-    split_present: &[u8],
-    split_counts: &[u32],
-    delta_present: &[u8],
-    deltas: &[i32],
+    entries: &[[u32; ENTRY_LEN]],
     split_heights: &[u32],
 ) -> bool
-    ensures { λ r. ⌜ r ≡ (tablesLong (lent (now («subpic_ids» .entry)) (now («tile_column_widths» .entry)) (now («tile_row_heights» .entry)) (sliceTables (now (widths .entry)) (now (heights .entry)) (now («split_present» .entry)) (now («split_counts» .entry)) (now («delta_present» .entry)) (now (deltas .entry)) (now («split_heights» .entry))) []) && countsFit pps (lent (now («subpic_ids» .entry)) (now («tile_column_widths» .entry)) (now («tile_row_heights» .entry)) (sliceTables (now (widths .entry)) (now (heights .entry)) (now («split_present» .entry)) (now («split_counts» .entry)) (now («delta_present» .entry)) (now (deltas .entry)) (now («split_heights» .entry))) [])) ⌝ }
+    ensures { λ r.
+        let t = before «subpic_ids» «tile_column_widths» «tile_row_heights» entries «split_heights» in
+        ⌜ r ≡ (tablesLong t && countsFit pps t) ⌝ }
 {
-    let slices = slices_long(
-        widths.len(),
-        heights.len(),
-        split_present.len(),
-        split_counts.len(),
-        delta_present.len(),
-        deltas.len(),
-        split_heights.len(),
-    );
     let long = tables_long(
         subpic_ids.len(),
         tile_column_widths.len(),
         tile_row_heights.len(),
-        slices,
+        entries.len(),
+        split_heights.len(),
     );
-    let fit = counts_fit(pps, split_present, split_counts);
+    let fit = counts_fit(pps, entries);
     long & fit
 }

@@ -19,10 +19,13 @@ use Rattle.syntax.specs.Round.{and-parts, and-true}
 use Rattle.pps_fields.specs.FieldReads.{tested}
 use Rattle.pps_fields.specs.ListReads.{listRead}
 use Rattle.pps_fields.specs.Sizes.{sizeRead, sizesRead, sizes-many}
-use Rattle.pps_slices.specs.Limits.{withinLimits, loopStart}
+use Rattle.tile_sizes.specs.Limits.{withinLimits}
+use Rattle.pps_slices.specs.Limits.{loopStart}
 use Rattle.pps_slices.specs.SizeReads.{demanded-held}
-use Rattle.pps_partition.specs.TileSizes.{TileSizes, explicit, countsTested, TilesRead}
-use Rattle.pps_partition.specs.SliceFlags.{SliceFlags, codes, slicesMinus1, FlagsRead}
+use Rattle.pps_partition.specs.TileSizes.{TileSizes, countsTested, TilesRead}
+use Rattle.pps_syntax.specs.PartitionSyntax.{explicit, slicesMinus1}
+use Rattle.pps_partition.specs.SliceFlags.{FlagsRead}
+use Rattle.pps_syntax.specs.SliceFlags.{SliceFlags, codes}
 use Rattle.pps_partition.specs.Block.{gridFrom, gridTested}
 use Rattle.pps_partition.specs.GridTests.{SizesFine}
 

@@ -1,23 +1,20 @@
 -- What the functions of this crate hand over.
-use Prim.Native.Nat.{ℕ, _-_, _*_, _≤_}
-use mathlib.Core.Path.{_≡_, sym, ap₂, subst}
+use Prim.Native.Nat.{ℕ, _-_, _*_}
+use mathlib.Core.Path.{_≡_, ap₂, subst}
 use mathlib.Core.List.{List}
-use mathlib.Core.Bool.{Bool, true}
-use native.Mathlib.Omega.{arith}
+use mathlib.Core.Bool.{Bool}
 use lib.Dec.{ltb}
-use lib.ListN.{length, take}
-use lib.Seq.{take-append-seam, length-take-le}
+use lib.ListN.{take}
 use Rattle.bit_reader.specs.declared.Cursor.{Cursor}
-use Rattle.partition.specs.Grid.{Grid, columns, rows, maxTileColumns, maxTiles}
-use Rattle.tile_grid.specs.declared.TileGrid.{TileGrid}
-use Rattle.tile_sizes.specs.Padded.{zeros, tableOf}
+use Rattle.partition.specs.Grid.{Grid, maxTileColumns, maxTiles, gridOf}
+use Rattle.grid_sizes.specs.declared.GridSizes.{GridSizes}
+use Rattle.grid_sizes.specs.Fronts.{GridIs, front-is}
 use Rattle.pps_syntax.specs.SliceTables.{SliceTables}
-use Rattle.pps_slices.specs.Limits.{gridOf, withinLimits, limits-held}
-use Rattle.pps_partition.specs.Block.{several}
+use Rattle.pps_syntax.specs.PartitionSyntax.{several}
 use Rattle.pps_partition.specs.Slicing.{Sliced}
 use Rattle.pps_partition.specs.declared.slicing.SliceFlagsRead.{SliceFlagsRead}
 use Rattle.pps_partition.specs.declared.slicing.SlicingRead.{SlicingRead}
-use Rattle.pps_partition.specs.SliceFlags.{SliceFlags}
+use Rattle.pps_syntax.specs.SliceFlags.{SliceFlags}
 
 abbrev pub readFlags : SliceFlagsRead → SliceFlags
 readFlags r =
@@ -39,30 +36,10 @@ flagsOf r =
       «pps_tile_idx_delta_present_flag» = r .deltas;
     }
 
--- the type of the code holds this grid
-pub record GridIs (g : Grid) (grid : TileGrid) : Type 0 where
-  pub columnsAre : grid .«num_tile_columns» ≡ columns g
-  pub rowsAre : grid .«num_tile_rows» ≡ rows g
-  pub widthsAre : grid .«column_widths» ≡ tableOf maxTileColumns (g .columnWidths)
-  pub heightsAre : grid .«row_heights» ≡ tableOf maxTiles (g .rowHeights)
-
--- ---- the fronts of its tables
-pub front-is : (n : ℕ) (ss l : List ℕ) (k : ℕ) → k ≡ length ss → l ≡ tableOf n ss → take k l ≡ ss
-unfolding tableOf
-front-is n ss l k e f = rw (f, e) (take-append-seam ss (zeros (n - length ss)))
-
-pub front-long : (k n : ℕ) (l : List ℕ) → length l ≡ n → k ≤ n → k ≡ length (take k l)
-front-long k n l e h = sym (length-take-le k l (omega arith))
-
-pub limits-fronts : (a b : ℕ) (k l : List ℕ) → length k ≡ maxTileColumns → length l ≡ maxTiles → withinLimits a b ≡ true → withinLimits (length (take a k)) (length (take b l)) ≡ true
-limits-fronts a b k l e f h =
-    let x = limits-held a b h in
-    rw (← front-long a maxTileColumns k e (x .few), ← front-long b maxTiles l f (x .low)) h
-
 grids : {g : Grid} {ws hs : List ℕ} → ws ≡ g .columnWidths → hs ≡ g .rowHeights → gridOf ws hs ≡ g
 grids p q = ap₂ gridOf p q
 
-pub sliced-in : (g : Grid) (grid : TileGrid) (s : List ℕ) (c : Cursor) (t u : SliceTables) (f : SliceFlags) (count across : ℕ) (next : Cursor) → GridIs g grid
+pub sliced-in : (g : Grid) (grid : GridSizes) (s : List ℕ) (c : Cursor) (t u : SliceTables) (f : SliceFlags) (count across : ℕ) (next : Cursor) → GridIs g grid
     → Sliced (gridOf (take (grid .«num_tile_columns») (grid .«column_widths»)) (take (grid .«num_tile_rows») (grid .«row_heights»))) (ltb 1 (grid .«num_tile_rows» * grid .«num_tile_columns»)) s c t u f count across next
     → Sliced g (several g) s c t u f count across next
 sliced-in g grid s c t u f count across next i r =

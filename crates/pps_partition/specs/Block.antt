@@ -2,31 +2,29 @@
 use Prim.Native.Nat.{ℕ, _/_}
 use mathlib.Core.Path.{_≡_, refl, _∙_}
 use mathlib.Core.List.{List}
-use mathlib.Core.Bool.{Bool, not, _&&_}
+use mathlib.Core.Bool.{not, _&&_}
 use lib.Dec.{eqb, ltb, leb, lit<}
 use lib.ListN.{length}
 use Rattle.bit_reader.specs.declared.Cursor.{Cursor}
 use Rattle.bit_reader.specs.Reading.{demanded}
 use Rattle.partition.specs.Entry.{firstPosition}
-use Rattle.partition.specs.Grid.{Grid, tiles, maxTileColumns, maxTiles}
+use Rattle.partition.specs.Grid.{Grid, maxTileColumns, maxTiles}
 use Rattle.partition.specs.Partition.{inCtbs, tileGrid}
 use Rattle.partition.specs.Sizes.{sum, explicitSizes, axisSizes}
-use Rattle.pps_syntax.specs.PartitionSyntax.{PartitionBlock, partition}
+use Rattle.pps_syntax.specs.PartitionSyntax.{PartitionBlock, partition, ctuSize, explicit, several, rectFlag, slicesMinus1}
+use Rattle.pps_syntax.specs.SliceFlags.{SliceFlags, codes}
 use Rattle.pps_syntax.specs.SliceSyntax.{RectSlice, rectSlices}
 use Rattle.syntax.specs.Element.{parsed, Element}
 use Rattle.syntax.specs.Elements.{ue, flagIf, orElse, isSet}
 use Rattle.syntax.specs.Lists.{none}
 use Rattle.syntax.specs.ReadSteps.{reads, reads-done, reads-test, reads-both, reads-past}
 use Rattle.syntax.specs.Syntax.{parse, _for_}
-use Rattle.pps_partition.specs.TileSizes.{TileSizes, ctuSize, explicit, countsTested, TilesRead}
-use Rattle.pps_partition.specs.SliceFlags.{SliceFlags, codes, rectFlag, slicesMinus1, FlagsRead}
+use Rattle.pps_partition.specs.TileSizes.{TileSizes, countsTested, TilesRead}
+use Rattle.pps_partition.specs.SliceFlags.{FlagsRead}
 
 -- the grid of the sizes read (H.266 6.5.1)
 abbrev pub gridFrom : ℕ → ℕ → TileSizes → Grid
 gridFrom W H t = tileGrid W H (t .«pps_log2_ctu_size_minus5») (t .«pps_tile_column_width_minus1») (t .«pps_tile_row_height_minus1»)
-
-abbrev pub several : Grid → Bool
-several g = ltb 1 (tiles g)
 
 -- 12 where the explicit sizes of an axis pass it, 13 where the grid is over its limits: columns, then rows
 unfoldable pub gridTested : ℕ → ℕ → TileSizes → Cursor → Cursor

@@ -10,15 +10,14 @@ use borrow.Author.Tests.{ne-eqb, eqb-true, eqb-false}
 use Rattle.bit_reader.specs.declared.Cursor.{Cursor}
 use Rattle.bit_reader.specs.Reading.{refusal, demanded}
 use Rattle.bit_reader.specs.Laws.{demanded-true, demanded-false, demanded-refused}
-use Rattle.partition.specs.Checks.{Check, refuse, refusedWith, firstBad, numberOf, AllPass, Numbered}
+use Rattle.partition.specs.Checks.{Check, refuse, refusedWith, firstBad, numberOf, AllPass, Numbered, not-past}
 use Rattle.partition.specs.Entry.{someAtLeast}
 use Rattle.partition.specs.Grid.{maxTileColumns, maxTiles}
 use Rattle.partition.specs.Partition.{inCtbs, explicitChecks, axisChecks, gridChecks}
 use Rattle.partition.specs.Sizes.{sum, explicitSizes, axisSizes}
-use Rattle.tile_grid.specs.declared.GridAnswer.{GridAnswer}
-use Rattle.tile_grid.specs.Answers.{gridAnswer}
-use Rattle.tile_grid.specs.Laws.{grid-number}
-use Rattle.pps_slices.specs.EntryMade.{not-past}
+use Rattle.grid_sizes.specs.declared.SizesAnswer.{SizesAnswer}
+use Rattle.grid_sizes.specs.Answers.{gridSizes}
+use Rattle.grid_sizes.specs.Laws.{grid-number}
 use Rattle.pps_partition.specs.TileSizes.{TileSizes}
 use Rattle.pps_partition.specs.Block.{gridTested}
 
@@ -86,7 +85,7 @@ module _ (W H : ℕ) (t : TileSizes) where
       )
 
   -- the answer's number does for the four tests; it is of no account where reading was refused before
-  pub grid-made : (c d : Cursor) (vs ks : List ℕ) (r : GridAnswer) → r ≡ gridAnswer W H ctu vs ks → (c .refused ≡ 0 → SizesFine W H t × ((vs ≡ ws) × (ks ≡ hs)))
+  pub grid-made : (c d : Cursor) (vs ks : List ℕ) (r : SizesAnswer) → r ≡ gridSizes W H ctu vs ks → (c .refused ≡ 0 → SizesFine W H t × ((vs ≡ ws) × (ks ≡ hs)))
       → d ≡ demanded (eqb (r .refused) 0) (r .refused) c → d ≡ gridTested W H t c
   unfolding gridTested gridChecks explicitChecks axisChecks Numbered
   grid-made c d vs ks r e f g = cases (eqb (c .refused) 0) refl
@@ -95,8 +94,8 @@ module _ (W H : ℕ) (t : TileSizes) where
       cases true z =
           let h = eqb-true (c .refused) 0 z in
           let q = f h in
-          let same : r ≡ gridAnswer W H ctu ws hs = e ∙ rw (q .1 .0, q .1 .1) in
-          let number : r .refused ≡ numberOf (firstBad (gridChecks W H ctu ws hs)) = ap (λ (x : GridAnswer). x .refused) same ∙ grid-number W H ctu ws hs in
+          let same : r ≡ gridSizes W H ctu ws hs = e ∙ rw (q .1 .0, q .1 .1) in
+          let number : r .refused ≡ numberOf (firstBad (gridChecks W H ctu ws hs)) = ap (λ (x : SizesAnswer). x .refused) same ∙ grid-number W H ctu ws hs in
           g ∙ rw number
           (checks-first (gridChecks W H ctu ws hs) c (lit< tt, (lit< tt, (lit< tt, (lit< tt, (lit< tt, (lit< tt, (lit< tt, (lit< tt, (lit< tt, tt))))))))) h
           ∙ grid-checks c (q .0))

@@ -9,7 +9,7 @@ use Rattle.bit_reader.specs.declared.Cursor.{Cursor}
 use Rattle.partition.specs.Entry.{Position, firstPosition}
 use Rattle.partition.specs.Grid.{Grid}
 use Rattle.partition.specs.Walk.{onward}
-use Rattle.pps_syntax.specs.PartitionSyntax.{partition}
+use Rattle.pps_syntax.specs.PartitionSyntax.{partition, several}
 use Rattle.pps_syntax.specs.SliceSyntax.{RectSlice, entryOf, rectSlice, rectSlices}
 use Rattle.syntax.specs.Element.{Parsed}
 use Rattle.syntax.specs.Elements.{orElse, isSet}
@@ -17,9 +17,10 @@ use Rattle.syntax.specs.Lists.{none}
 use Rattle.syntax.specs.Syntax.{parse}
 use Rattle.pps_slices.specs.Loop.{refusedFrom, refusedHeights, turns, turns-end, turns-more, turns-stop, all-turns}
 use Rattle.pps_partition.specs.Accepted.{flag-going}
-use Rattle.pps_partition.specs.Block.{gridFrom, several, gridTested, codedSlices, block-read}
+use Rattle.pps_partition.specs.Block.{gridFrom, gridTested, codedSlices, block-read}
 use Rattle.pps_partition.specs.PartitionAnswer.{partitionLeft}
-use Rattle.pps_partition.specs.SliceFlags.{SliceFlags, codes, flags-parts}
+use Rattle.pps_partition.specs.SliceFlags.{flags-parts}
+use Rattle.pps_syntax.specs.SliceFlags.{SliceFlags, codes}
 use Rattle.pps_partition.specs.Slicing.{codedLeft, flagsAt, slicesAt, acrossAt}
 use Rattle.pps_partition.specs.TileSizes.{tileSizes, tiles-parts}
 

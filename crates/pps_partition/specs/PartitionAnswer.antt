@@ -7,23 +7,24 @@ use Rattle.bit_reader.specs.declared.Cursor.{Cursor}
 use Rattle.bit_reader.specs.Reading.{demanded}
 use Rattle.partition.specs.Grid.{Grid, maxTileColumns, maxTiles}
 use Rattle.pps_record.specs.declared.VvcPpsPartition.{VvcPpsPartition}
-use Rattle.pps_syntax.specs.PartitionSyntax.{PartitionBlock}
+use Rattle.pps_syntax.specs.PartitionSyntax.{PartitionBlock, several}
 use Rattle.pps_syntax.specs.Record.{partitionRecord}
 use Rattle.syntax.specs.Element.{Parsed}
 use Rattle.syntax.specs.Syntax.{parse}
 use Rattle.pps_partition.specs.declared.PartitionRead.{PartitionRead}
 use Rattle.pps_partition.specs.declared.slicing.SlicingRead.{SlicingRead}
-use Rattle.pps_partition.specs.Block.{gridFrom, several, gridTested}
-use Rattle.pps_partition.specs.SliceFlags.{SliceFlags, sliceFlags}
+use Rattle.pps_partition.specs.Block.{gridFrom, gridTested}
+use Rattle.pps_partition.specs.SliceFlags.{sliceFlags}
+use Rattle.pps_syntax.specs.SliceFlags.{SliceFlags}
 use Rattle.pps_partition.specs.Slicing.{codedLeft}
 use Rattle.pps_partition.specs.TileSizes.{TileSizes, tileSizes}
 
 -- the tables that reading looks back into have their lengths
-unfoldable pub tablesLong : ℕ → ℕ → ℕ → Bool
-tablesLong columns rows heights = leb maxTileColumns columns && (leb maxTiles rows && leb 1000 heights)
+unfoldable pub sizesLong : ℕ → ℕ → ℕ → Bool
+sizesLong columns rows heights = leb maxTileColumns columns && (leb maxTiles rows && leb 1000 heights)
 
 unfoldable pub partitionStart : ℕ → ℕ → ℕ → Cursor → Cursor
-partitionStart columns rows heights c = demanded (tablesLong columns rows heights) 5 c
+partitionStart columns rows heights c = demanded (sizesLong columns rows heights) 5 c
 
 abbrev pub answer : VvcPpsPartition → Cursor → PartitionRead
 answer value next = record { value = value; next = next }

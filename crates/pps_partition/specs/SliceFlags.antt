@@ -3,33 +3,14 @@ use Prim.Native.Nat.{ℕ}
 use mathlib.Core.Path.{_≡_, refl, _∙_}
 use mathlib.Core.List.{List}
 use mathlib.Core.Bool.{Bool, _&&_}
-use lib.Dec.{ltb, leb, lit<}
+use lib.Dec.{ltb}
 use Rattle.bit_reader.specs.declared.Cursor.{Cursor}
-use Rattle.partition.specs.Grid.{maxSlicesMinus1}
-use Rattle.pps_syntax.specs.PartitionSyntax.{coded}
-use Rattle.syntax.specs.Element.{Parsed, parsed, Element}
-use Rattle.syntax.specs.Elements.{flag, ue, flagIf, limited, absent, sameℕ, orElse, isSet}
+use Rattle.pps_syntax.specs.PartitionSyntax.{coded, rectFlag, slicesMinus1}
+use Rattle.pps_syntax.specs.SliceFlags.{SliceFlags, codes}
+use Rattle.syntax.specs.Element.{Parsed, parsed}
+use Rattle.syntax.specs.Elements.{flagIf, isSet}
 use Rattle.syntax.specs.ReadSteps.{reads, reads-done}
 use Rattle.syntax.specs.Syntax.{Syntax, done, _for_, _>>=_, parse}
-
-pub record SliceFlags : Type 0 where
-  pub «pps_loop_filter_across_tiles_enabled_flag» : ℕ
-  pub «pps_rect_slice_flag» : ℕ
-  pub «pps_single_slice_per_subpic_flag» : ℕ
-  pub «pps_num_slices_in_pic_minus1» : ℕ
-  pub «pps_tile_idx_delta_present_flag» : ℕ
-
--- rectangular slices are coded
-abbrev pub codes : SliceFlags → Bool
-codes f = coded (f .«pps_rect_slice_flag») (f .«pps_single_slice_per_subpic_flag»)
-
--- pps_rect_slice_flag, 1 where there is a single tile
-abbrev pub rectFlag : Bool → Element ℕ
-rectFlag several = orElse several flag (absent sameℕ 1 26)
-
--- pps_num_slices_in_pic_minus1, at most 999
-abbrev pub slicesMinus1 : Bool → Element ℕ
-slicesMinus1 on = orElse on (limited ue (λ v. leb v maxSlicesMinus1) 14 (lit< tt)) (absent sameℕ 0 0)
 
 module _ (several : Bool) where
   unfoldable pub sliceFlags : Syntax SliceFlags

@@ -10,7 +10,7 @@ use Rattle.bit_reader.specs.declared.Cursor.{Cursor}
 use Rattle.bit_reader.specs.declared.BitsRead.{BitsRead}
 use Rattle.bit_reader.specs.Laws.{u-stays, demanded-refused}
 use Rattle.partition.specs.Entry.{firstPosition}
-use Rattle.partition.specs.Grid.{Grid}
+use Rattle.partition.specs.Grid.{Grid, gridOf}
 use Rattle.pps_syntax.specs.SliceSyntax.{RectSlice, rectSlices}
 use Rattle.pps_syntax.specs.SliceTables.{SliceTables, allSplitHeights}
 use Rattle.syntax.specs.Element.{Parsed, parsed}
@@ -18,13 +18,16 @@ use Rattle.syntax.specs.Elements.{flag, absent, sameℕ, orElse, isSet}
 use Rattle.syntax.specs.Lists.{none}
 use Rattle.syntax.specs.Syntax.{parse}
 use Rattle.pps_slices.specs.Held.{SlicesRead}
-use Rattle.pps_slices.specs.Limits.{gridOf, withinLimits, loopStart, slicesFor, refusedFor}
+use Rattle.tile_sizes.specs.Limits.{withinLimits}
+use Rattle.pps_slices.specs.Limits.{loopStart, slicesFor, refusedFor}
 use Rattle.pps_slices.specs.Loop.{slicesLeft, refusedHeights}
 use Rattle.pps_slices.specs.SizeReads.{ue-stuck}
 use Rattle.pps_slices.specs.Stuck.{slices-stuck, refused-stuck}
 use Rattle.pps_partition.specs.Accepted.{flags-accepted, start-same}
 use Rattle.pps_partition.specs.Block.{codedSlices, acrossSlices}
-use Rattle.pps_partition.specs.SliceFlags.{SliceFlags, codes, slicesMinus1, sliceFlags, FlagsRead, flags-parts}
+use Rattle.pps_partition.specs.SliceFlags.{sliceFlags, FlagsRead, flags-parts}
+use Rattle.pps_syntax.specs.SliceFlags.{SliceFlags, codes}
+use Rattle.pps_syntax.specs.PartitionSyntax.{slicesMinus1}
 
 -- the explicit slice heights of an entry that is refused
 unfoldable pub codedLeft : Grid → SliceFlags → List ℕ → Cursor → List ℕ

@@ -1,17 +1,17 @@
 -- The front of the partition block (H.266 7.3.2.5): the CTU size and the explicit tile sizes of a picture of W by H luma samples.
-use Prim.Native.Nat.{ℕ, suc, _-_}
+use Prim.Native.Nat.{ℕ, _-_}
 use mathlib.Core.Path.{_≡_, refl, _∙_}
 use mathlib.Core.List.{List}
 use mathlib.Core.Bool.{_&&_}
-use lib.Dec.{ltb, leb, lit<}
+use lib.Dec.{ltb, lit<}
 use lib.ListN.{length}
 use Rattle.bit_reader.specs.declared.Cursor.{Cursor}
 use Rattle.bit_reader.specs.Reading.{demanded}
 use Rattle.partition.specs.Grid.{maxTileColumns, maxTiles}
 use Rattle.partition.specs.Partition.{inCtbs}
-use Rattle.syntax.specs.Element.{parsed, Element}
-use Rattle.syntax.specs.Elements.{u, ue, limited}
-use Rattle.syntax.specs.Lists.{many}
+use Rattle.pps_syntax.specs.PartitionSyntax.{ctuSize, explicit}
+use Rattle.syntax.specs.Element.{parsed}
+use Rattle.syntax.specs.Elements.{ue}
 use Rattle.syntax.specs.ReadSteps.{reads, reads-done, reads-test}
 use Rattle.syntax.specs.Syntax.{Syntax, done, onReading, _for_, _>>=_, parse}
 
@@ -19,14 +19,6 @@ pub record TileSizes : Type 0 where
   pub «pps_log2_ctu_size_minus5» : ℕ
   pub «pps_tile_column_width_minus1» : List ℕ
   pub «pps_tile_row_height_minus1» : List ℕ
-
--- pps_log2_ctu_size_minus5, at most 2
-abbrev pub ctuSize : Element ℕ
-ctuSize = limited (u 2 0) (λ v. leb v 2) 9 (lit< tt)
-
--- as many explicit sizes minus 1 as were counted, one more than the count says; each below the picture's CTBs on its axis
-abbrev pub explicit : ℕ → ℕ → Element (List ℕ)
-explicit countMinus1 ctbs = many (suc countMinus1) (limited ue (λ v. ltb v ctbs) 11 (lit< tt)) 10
 
 -- pps_num_exp_tile_columns_minus1 and pps_num_exp_tile_rows_minus1 are below the limits of Table A.2
 abbrev pub countsTested : ℕ → ℕ → Cursor → Cursor

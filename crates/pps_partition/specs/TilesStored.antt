@@ -1,14 +1,12 @@
 -- The tile sizes in their tables.
-use Prim.Native.Nat.{ℕ, suc, _+_, _≤_, _<_, min}
-use mathlib.Core.Path.{_≡_, refl, sym, ap, subst, _∙_}
+use Prim.Native.Nat.{ℕ, suc, _+_, _<_, min}
+use mathlib.Core.Path.{_≡_, refl, ap, subst, _∙_}
 use mathlib.Core.List.{List}
-use mathlib.Core.Bool.{Bool, true, false}
 use native.Mathlib.Numerals.{add-one}
 use native.Mathlib.Omega.{arith}
 use lib.Dec.{leb, lit<}
-use lib.ListN.{length, take}
-use lib.Seq.{sets, take-all, take-length, length-take-le}
-use borrow.Author.Tests.{leb-true, leb-false}
+use lib.ListN.{length}
+use lib.Seq.{sets}
 use Rattle.bit_reader.specs.declared.Cursor.{Cursor}
 use Rattle.bit_reader.specs.declared.BitsRead.{BitsRead}
 use Rattle.bit_reader.specs.declared.ByteRead.{ByteRead}
@@ -19,9 +17,8 @@ use Rattle.syntax.specs.Element.{Parsed, parsed}
 use Rattle.syntax.specs.Elements.{bitsParsed}
 use Rattle.syntax.specs.Syntax.{parse}
 use Rattle.pps_fields.specs.Sizes.{sizesRead, sizes-many}
-use Rattle.tile_grid.specs.declared.GridAnswer.{GridAnswer}
-use Rattle.tile_grid.specs.Answers.{gridAnswer}
-use Rattle.pps_partition.specs.TileSizes.{TileSizes, ctuSize, explicit, countsTested, tileSizes, TilesRead, tiles-read}
+use Rattle.pps_partition.specs.TileSizes.{TileSizes, countsTested, tileSizes, TilesRead, tiles-read}
+use Rattle.pps_syntax.specs.PartitionSyntax.{ctuSize, explicit}
 
 pub record TilesStored (T : Parsed TileSizes) (t₁ t₂ u₁ u₂ : List ℕ) (ctu columns rows : ℕ) (next : Cursor) : Type 0 where
   pub ctuIs : ctu ≡ T .value .«pps_log2_ctu_size_minus5»
@@ -72,22 +69,5 @@ tiles-made W H s c ctu c₁ w h columns rows few t₁ t₂ u₁ u₂ n m c₂ ne
     subst (λ (x : Parsed TileSizes). TilesStored x t₁ t₂ u₁ u₂ (ctu .value) n m next) all
     (record { ctuIs = refl; columnsAre = l₁ .1 .0; rowsAre = l₂ .1 .0; nextIs = l₂ .0; widths = l₁ .1 .1; heights = l₂ .1 .1 })
 
-pub take-most : (n : ℕ) (l : List ℕ) → take (min n (length l)) l ≡ take n l
-take-most n l = cases (leb n (length l)) refl
-  where
-    cases : (b : Bool) → leb n (length l) ≡ b → take (min n (length l)) l ≡ take n l
-    cases true e = ap (λ (k : ℕ). take k l) (let z : min n (length l) ≡ n = omega (arith, leb-true n (length l) e) in z)
-    cases false e =
-        let h : length l ≤ n = omega (arith, leb-false n (length l) e) in
-        ap (λ (k : ℕ). take k l) (let z : min n (length l) ≡ length l = omega arith in z) ∙ take-length l ∙ sym (take-all n l h)
-
-pub grid-is : (W H ctu : ℕ) (ws hs : List ℕ) (n m a b : ℕ) (r : GridAnswer) → a ≡ min n (length ws) → b ≡ min m (length hs) → r ≡ gridAnswer W H ctu (take a ws) (take b hs)
-    → r ≡ gridAnswer W H ctu (take n ws) (take m hs)
-grid-is W H ctu ws hs n m a b r p q e = e ∙ rw (p, q, take-most n ws, take-most m hs)
-
 pub ue-room : (s : List ℕ) (c : Cursor) {r : BitsRead} → r ≡ ueRead s c → r .value + 1 < 4294967296
 ue-room s c e = omega (arith, ap (λ (x : BitsRead). x .value) e, ue-small s c)
-
--- a front of a table is as long as it says
-pub front-length : (n a : ℕ) (l : List ℕ) → a ≡ min n (length l) → a ≡ length (take a l)
-front-length n a l e = sym (length-take-le a l (omega arith))

@@ -12,28 +12,30 @@ use Rattle.bit_reader.specs.declared.Cursor.{Cursor}
 use Rattle.bit_reader.specs.Reading.{demanded}
 use Rattle.partition.specs.Grid.{Grid, columns, rows, maxTileColumns, maxTiles}
 use Rattle.pps_record.specs.declared.VvcPpsPartition.{VvcPpsPartition}
-use Rattle.pps_syntax.specs.PartitionSyntax.{PartitionBlock, partition}
+use Rattle.pps_syntax.specs.PartitionSyntax.{PartitionBlock, partition, several}
 use Rattle.pps_syntax.specs.Record.{partitionRecord}
 use Rattle.pps_syntax.specs.SliceSyntax.{RectSlice}
 use Rattle.pps_syntax.specs.SliceTables.{SliceTables}
 use Rattle.syntax.specs.Element.{Parsed, parsed}
 use Rattle.syntax.specs.Round.{and-parts}
 use Rattle.syntax.specs.Syntax.{parse}
-use Rattle.tile_grid.specs.declared.GridAnswer.{GridAnswer}
-use Rattle.tile_grid.specs.Answers.{gridOfSizes, gridAnswer}
-use Rattle.tile_grid.specs.Laws.{grid-sizes}
+use Rattle.grid_sizes.specs.declared.SizesAnswer.{SizesAnswer}
+use Rattle.grid_sizes.specs.Answers.{gridOfSizes, gridSizes}
+use Rattle.grid_sizes.specs.Laws.{grid-sizes}
 use Rattle.pps_slices.specs.EntryMade.{part-is}
-use Rattle.pps_slices.specs.Limits.{withinLimits}
+use Rattle.tile_sizes.specs.Limits.{withinLimits}
 use Rattle.pps_slices.specs.Loop.{slicesLeft}
 use Rattle.pps_slices.specs.SizeReads.{demanded-held}
 use Rattle.pps_partition.specs.declared.PartitionRead.{PartitionRead}
 use Rattle.pps_partition.specs.declared.slicing.SlicingRead.{SlicingRead}
 use Rattle.pps_partition.specs.Accepted.{tiles-accepted, grid-accepted}
-use Rattle.pps_partition.specs.Answers.{flagsOf, GridIs}
-use Rattle.pps_partition.specs.Block.{gridFrom, several, gridTested, blockOf, block-read}
+use Rattle.pps_partition.specs.Answers.{flagsOf}
+use Rattle.grid_sizes.specs.Fronts.{GridIs}
+use Rattle.pps_partition.specs.Block.{gridFrom, gridTested, blockOf, block-read}
 use Rattle.pps_partition.specs.GridTests.{SizesFine, grid-made}
-use Rattle.pps_partition.specs.PartitionAnswer.{tablesLong, partitionStart, partitionAnswer, partitionLeft, answer, partitionNumbers, partitionOf}
-use Rattle.pps_partition.specs.SliceFlags.{SliceFlags, flags-parts}
+use Rattle.pps_partition.specs.PartitionAnswer.{sizesLong, partitionStart, partitionAnswer, partitionLeft, answer, partitionNumbers, partitionOf}
+use Rattle.pps_partition.specs.SliceFlags.{flags-parts}
+use Rattle.pps_syntax.specs.SliceFlags.{SliceFlags}
 use Rattle.pps_partition.specs.Slicing.{flagsAt, slicesAt, acrossAt, Sliced}
 use Rattle.pps_partition.specs.TileSizes.{TileSizes, tileSizes, tiles-parts}
 use Rattle.pps_partition.specs.TilesStored.{TilesStored}
@@ -45,7 +47,7 @@ pub record Long (columns rows heights : ℕ) : Type 0 where
   pub heightsLong : 1000 ≤ heights
 
 start-held : (columns rows heights : ℕ) (c : Cursor) → partitionStart columns rows heights c .refused ≡ 0 → Long columns rows heights
-unfolding partitionStart tablesLong
+unfolding partitionStart sizesLong
 start-held columns rows heights c h =
     let a = demanded-held (leb maxTileColumns columns && (leb maxTiles rows && leb 1000 heights)) 5 c (lit< tt) h in
     let p = and-parts (leb maxTileColumns columns) (leb maxTiles rows && leb 1000 heights) (a .0) in
@@ -105,30 +107,30 @@ module _ (W H : ℕ) (s : List ℕ) (c : Cursor) (places : ℕ) (t₁ t₂ : Lis
       )
 
   -- the grid's tests, and what they have shown
-  pub record GridTested (answer : GridAnswer) (tested : Cursor) : Type 0 where
+  pub record GridTested (answer : SizesAnswer) (tested : Cursor) : Type 0 where
     pub testedIs : tested ≡ gridTested W H (T .value) (T .next)
-    pub gridIs : tested .refused ≡ 0 → GridIs g (answer .grid)
-    pub ready : tested .refused ≡ 0 → (withinLimits (answer .grid .«num_tile_columns») (answer .grid .«num_tile_rows») ≡ true) × (1000 ≤ places)
+    pub gridIs : tested .refused ≡ 0 → GridIs g (answer .sizes)
+    pub ready : tested .refused ≡ 0 → (withinLimits (answer .sizes .«num_tile_columns») (answer .sizes .«num_tile_rows») ≡ true) × (1000 ≤ places)
 
-  pub grid-tested : (u₁ u₂ : List ℕ) (ctu n m : ℕ) (next : Cursor) (answer : GridAnswer) (tested : Cursor) → TilesStored T t₁ t₂ u₁ u₂ ctu n m next
-      → answer ≡ gridAnswer W H ctu (take n u₁) (take m u₂) → tested ≡ demanded (eqb (answer .refused) 0) (answer .refused) next → GridTested answer tested
+  pub grid-tested : (u₁ u₂ : List ℕ) (ctu n m : ℕ) (next : Cursor) (answer : SizesAnswer) (tested : Cursor) → TilesStored T t₁ t₂ u₁ u₂ ctu n m next
+      → answer ≡ gridSizes W H ctu (take n u₁) (take m u₂) → tested ≡ demanded (eqb (answer .refused) 0) (answer .refused) next → GridTested answer tested
   unfolding gridOfSizes
   grid-tested u₁ u₂ ctu n m next answer tested S e f =
-      let size : answer ≡ gridAnswer W H (T .value .«pps_log2_ctu_size_minus5») (take n u₁) (take m u₂) = e ∙ ap (λ (x : ℕ). gridAnswer W H x (take n u₁) (take m u₂)) (S .ctuIs) in
+      let size : answer ≡ gridSizes W H (T .value .«pps_log2_ctu_size_minus5») (take n u₁) (take m u₂) = e ∙ ap (λ (x : ℕ). gridSizes W H x (take n u₁) (take m u₂)) (S .ctuIs) in
       let behind : tested ≡ demanded (eqb (answer .refused) 0) (answer .refused) (T .next) = f ∙ ap (demanded (eqb (answer .refused) 0) (answer .refused)) (S .nextIs) in
       let is : tested ≡ gridTested W H (T .value) (T .next) = grid-made W H (T .value) (T .next) tested (take n u₁) (take m u₂) answer size (stored-fine u₁ u₂ ctu n m next S) behind in
-      let held : tested .refused ≡ 0 → GridIs g (answer .grid) =
+      let held : tested .refused ≡ 0 → GridIs g (answer .sizes) =
       λ z.
       let p = grid-accepted W H (T .value) (T .next) (sym (ap (λ (x : Cursor). x .refused) is) ∙ z) in
       let q = stored-fine u₁ u₂ ctu n m next S (p .1) in
-      let whole : answer ≡ gridAnswer W H (T .value .«pps_log2_ctu_size_minus5») (T .value .«pps_tile_column_width_minus1») (T .value .«pps_tile_row_height_minus1») = size ∙ rw (q .1 .0, q .1 .1) in
+      let whole : answer ≡ gridSizes W H (T .value .«pps_log2_ctu_size_minus5») (T .value .«pps_tile_column_width_minus1») (T .value .«pps_tile_row_height_minus1») = size ∙ rw (q .1 .0, q .1 .1) in
       let zero : answer .refused ≡ 0 = answer-zero (answer .refused) (T .next) (sym (ap (λ (x : Cursor). x .refused) behind) ∙ z) in
-      let sized : answer ≡ gridOfSizes (g .columnWidths) (g .rowHeights) = whole ∙ grid-sizes W H _ _ _ (sym (ap (λ (x : GridAnswer). x .refused) whole) ∙ zero) in
+      let sized : answer ≡ gridOfSizes (g .columnWidths) (g .rowHeights) = whole ∙ grid-sizes W H _ _ _ (sym (ap (λ (x : SizesAnswer). x .refused) whole) ∙ zero) in
       record {
-        columnsAre = ap (λ (x : GridAnswer). x .grid .«num_tile_columns») sized;
-        rowsAre = ap (λ (x : GridAnswer). x .grid .«num_tile_rows») sized;
-        widthsAre = ap (λ (x : GridAnswer). x .grid .«column_widths») sized;
-        heightsAre = ap (λ (x : GridAnswer). x .grid .«row_heights») sized;
+        columnsAre = ap (λ (x : SizesAnswer). x .sizes .«num_tile_columns») sized;
+        rowsAre = ap (λ (x : SizesAnswer). x .sizes .«num_tile_rows») sized;
+        widthsAre = ap (λ (x : SizesAnswer). x .sizes .«column_widths») sized;
+        heightsAre = ap (λ (x : SizesAnswer). x .sizes .«row_heights») sized;
       } in
       record {
         testedIs = is;
@@ -151,7 +153,7 @@ module _ (W H : ℕ) (s : List ℕ) (c : Cursor) (places : ℕ) (t₁ t₂ : Lis
       × ((u₂ ≡ sets t₂ 0 (block .value .«pps_tile_row_height_minus1»))
       × (after ≡ slicesLeft before 0 0 (block .value .rectSlices) (partitionLeft W H s start))))
 
-  pub partition-made : (u₁ u₂ : List ℕ) (ctu n m : ℕ) (next : Cursor) (answer : GridAnswer) (tested : Cursor) (before after : SliceTables) (r : SlicingRead) (x : PartitionRead)
+  pub partition-made : (u₁ u₂ : List ℕ) (ctu n m : ℕ) (next : Cursor) (answer : SizesAnswer) (tested : Cursor) (before after : SliceTables) (r : SlicingRead) (x : PartitionRead)
       → TilesStored T t₁ t₂ u₁ u₂ ctu n m next → GridTested answer tested
       → Sliced g (several g) s tested before after (flagsOf r) (r .«num_rect_slices») (r .«across_slices») (r .next) → x ≡ partitionOf ctu n m r → Read u₁ u₂ before after x
   unfolding partitionLeft
@@ -175,7 +177,7 @@ module _ (W H : ℕ) (s : List ℕ) (c : Cursor) (places : ℕ) (t₁ t₂ : Lis
       )
 
   -- the start as code comes to it
-  pub stored-from : (long : Bool) (d : Cursor) (u₁ u₂ : List ℕ) (ctu n m : ℕ) (next : Cursor) → long ≡ tablesLong (length t₁) (length t₂) places → d ≡ demanded long 5 c
+  pub stored-from : (long : Bool) (d : Cursor) (u₁ u₂ : List ℕ) (ctu n m : ℕ) (next : Cursor) → long ≡ sizesLong (length t₁) (length t₂) places → d ≡ demanded long 5 c
       → TilesStored (parse (tileSizes W H) s d) t₁ t₂ u₁ u₂ ctu n m next → TilesStored T t₁ t₂ u₁ u₂ ctu n m next
   unfolding partitionStart
   stored-from long d u₁ u₂ ctu n m next e f S =

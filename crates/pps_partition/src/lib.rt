@@ -3,19 +3,20 @@ ghost use mathlib.Core.Path.{_≡_};
 ghost use lib.ListN.{length};
 ghost use lib.Seq.{sets};
 ghost use Rattle.pps_syntax.specs.PartitionSyntax.{partition};
-ghost use Rattle.pps_syntax.specs.SliceTables.{sliceTables};
+ghost use Rattle.pps_tables.specs.Parameters.{slicesBefore, slicesAfter};
 ghost use Rattle.syntax.specs.Syntax.{parse};
 ghost use Rattle.pps_slices.specs.Loop.{slicesLeft};
-ghost use Rattle.pps_partition.specs.PartitionAnswer.{tablesLong, partitionStart, partitionOf, partitionAnswer, partitionLeft};
+ghost use Rattle.pps_partition.specs.PartitionAnswer.{sizesLong, partitionStart, partitionOf, partitionAnswer, partitionLeft};
 use bit_reader::Cursor;
 use bit_reader::guarded::demand;
+use grid_sizes::sizes_in_tables;
 use pps_record::VvcPpsPartition;
 use pps_record::lengths::SPLIT_HEIGHTS;
 use pps_record::lengths::TILE_COLUMN_WIDTHS;
 use pps_record::lengths::TILE_ROW_HEIGHTS;
+use pps_tables::ENTRY_LEN;
 use slicing::SlicingRead;
 use slicing::read_in_grid;
-use tiles::grid_of;
 use tiles::read_tile_sizes;
 
 mod slicing;
@@ -28,7 +29,7 @@ pub struct PartitionRead {
 }
 
 fn tables_long(columns: usize, rows: usize, heights: usize) -> bool
-    ensures { λ r. ⌜ r ≡ tablesLong columns rows heights ⌝ }
+    ensures { λ r. ⌜ r ≡ sizesLong columns rows heights ⌝ }
 {
     (columns >= TILE_COLUMN_WIDTHS) & ((rows >= TILE_ROW_HEIGHTS) & (heights >= SPLIT_HEIGHTS))
 }
@@ -68,19 +69,14 @@ pub fn read_partition(
     height: u32,
     tile_column_widths: &mut [u32],
     tile_row_heights: &mut [u32],
-    widths: &mut [u32],
-    heights: &mut [u32],
-    split_present: &mut [u8],
-    split_counts: &mut [u32],
-    delta_present: &mut [u8],
-    deltas: &mut [i32],
+    entries: &mut [[u32; ENTRY_LEN]],
     split_heights: &mut [u32],
     c: Cursor,
 ) -> PartitionRead
     ensures answer { λ r. ⌜ r ≡ partitionAnswer (parse (partition width height) (now (s .entry)) (partitionStart (length (now («tile_column_widths» .entry))) (length (now («tile_row_heights» .entry))) (length (now («split_heights» .entry))) c)) ⌝ }
     ensures columns { λ r. ⌜ now («tile_column_widths» .exit) ≡ sets (now («tile_column_widths» .entry)) 0 (parse (partition width height) (now (s .entry)) (partitionStart (length (now («tile_column_widths» .entry))) (length (now («tile_row_heights» .entry))) (length (now («split_heights» .entry))) c) .value .«pps_tile_column_width_minus1») ⌝ }
     ensures rows { λ r. ⌜ now («tile_row_heights» .exit) ≡ sets (now («tile_row_heights» .entry)) 0 (parse (partition width height) (now (s .entry)) (partitionStart (length (now («tile_column_widths» .entry))) (length (now («tile_row_heights» .entry))) (length (now («split_heights» .entry))) c) .value .«pps_tile_row_height_minus1») ⌝ }
-    ensures slices { λ r. ⌜ sliceTables (now (widths .exit)) (now (heights .exit)) (now («split_present» .exit)) (now («split_counts» .exit)) (now («delta_present» .exit)) (now (deltas .exit)) (now («split_heights» .exit)) ≡ slicesLeft (sliceTables (now (widths .entry)) (now (heights .entry)) (now («split_present» .entry)) (now («split_counts» .entry)) (now («delta_present» .entry)) (now (deltas .entry)) (now («split_heights» .entry))) 0 0 (parse (partition width height) (now (s .entry)) (partitionStart (length (now («tile_column_widths» .entry))) (length (now («tile_row_heights» .entry))) (length (now («split_heights» .entry))) c) .value .rectSlices) (partitionLeft width height (now (s .entry)) (partitionStart (length (now («tile_column_widths» .entry))) (length (now («tile_row_heights» .entry))) (length (now («split_heights» .entry))) c)) ⌝ }
+    ensures slices { λ r. ⌜ slicesAfter entries «split_heights» ≡ slicesLeft (slicesBefore entries «split_heights») 0 0 (parse (partition width height) (now (s .entry)) (partitionStart (length (now («tile_column_widths» .entry))) (length (now («tile_row_heights» .entry))) (length (now («split_heights» .entry))) c) .value .rectSlices) (partitionLeft width height (now (s .entry)) (partitionStart (length (now («tile_column_widths» .entry))) (length (now («tile_row_heights» .entry))) (length (now («split_heights» .entry))) c)) ⌝ }
 {
     let long = tables_long(
         tile_column_widths.len(),
@@ -96,7 +92,7 @@ pub fn read_partition(
         tile_row_heights,
         start,
     );
-    let answer = grid_of(
+    let answer = sizes_in_tables(
         width,
         height,
         sizes.ctu,
@@ -106,18 +102,7 @@ pub fn read_partition(
         sizes.rows,
     );
     let tested = demand(answer.refused == 0, answer.refused, sizes.next);
-    let grid = answer.grid;
-    let slicing = read_in_grid(
-        s,
-        grid,
-        widths,
-        heights,
-        split_present,
-        split_counts,
-        delta_present,
-        deltas,
-        split_heights,
-        tested,
-    );
+    let grid = answer.sizes;
+    let slicing = read_in_grid(s, grid, entries, split_heights, tested);
     partition_of(sizes.ctu, sizes.columns, sizes.rows, slicing)
 }

@@ -3,23 +3,26 @@ ghost use mathlib.Core.Path.{_≡_};
 ghost use mathlib.Core.Bool.{true};
 ghost use Prim.Native.Nat.{_≤_};
 ghost use lib.ListN.{length};
-ghost use Rattle.partition.specs.Grid.{Grid};
-ghost use Rattle.pps_syntax.specs.SliceTables.{sliceTables};
+ghost use Rattle.partition.specs.Grid.{Grid, gridOf, maxSlices};
+ghost use Rattle.pps_tables.specs.Parameters.{slicesBefore, slicesAfter};
 ghost use Rattle.syntax.specs.Element.{parsed};
 ghost use Rattle.syntax.specs.Syntax.{parse};
 ghost use Rattle.pps_slices.specs.Held.{SlicesRead};
-ghost use Rattle.pps_slices.specs.Limits.{gridOf, withinLimits};
-ghost use Rattle.pps_partition.specs.Answers.{flagsOf, readFlags, GridIs};
-ghost use Rattle.pps_partition.specs.Block.{several};
+ghost use Rattle.tile_sizes.specs.Limits.{withinLimits};
+ghost use Rattle.pps_partition.specs.Answers.{flagsOf, readFlags};
+ghost use Rattle.grid_sizes.specs.Fronts.{GridIs};
+ghost use Rattle.pps_syntax.specs.PartitionSyntax.{several};
 ghost use Rattle.pps_partition.specs.SliceFlags.{sliceFlags};
 ghost use Rattle.pps_partition.specs.Slicing.{Sliced, slicesIf, leftIf};
 use bit_reader::Cursor;
 use bit_reader::guarded::flag_or;
+use grid_sizes::GridSizes;
 use pps_fields::fields::ue_at_most;
 use pps_slices::RectSlicesRead;
 use pps_slices::read_rect_slices;
+use pps_tables::ENTRY_LEN;
 use slice_loop::SliceIdx;
-use tile_grid::TileGrid;
+use tile_sizes::MAX_NUM_SLICES_MINUS1;
 
 pub struct SliceFlagsRead {
     pub across_tiles: u8,
@@ -37,7 +40,7 @@ pub fn read_flags(s: &[u8], several: bool, c: Cursor) -> SliceFlagsRead
     let rect = flag_or(s, several, 1, across.next);
     let single = flag_or(s, rect.value != 0, 0, rect.next);
     let coded = (rect.value != 0) & (single.value == 0);
-    let n = ue_at_most(s, coded, TileGrid::MAX_NUM_SLICES_MINUS1, 14, single.next);
+    let n = ue_at_most(s, coded, MAX_NUM_SLICES_MINUS1, 14, single.next);
     let deltas = flag_or(s, coded & (n.value > 1), 0, n.next);
     let next = deltas.next;
     SliceFlagsRead {
@@ -58,16 +61,11 @@ pub fn read_coded_slices(
     row_heights: &[u32],
     deltas_coded: bool,
     n: u32,
-    widths: &mut [u32],
-    heights: &mut [u32],
-    split_present: &mut [u8],
-    split_counts: &mut [u32],
-    delta_present: &mut [u8],
-    deltas: &mut [i32],
+    entries: &mut [[u32; ENTRY_LEN]],
     split_heights: &mut [u32],
     c: Cursor,
 ) -> RectSlicesRead
-    ensures { λ r. ⌜ SlicesRead (slicesIf coded (now («column_widths» .entry)) (now («row_heights» .entry)) «deltas_coded» n (length (now («split_heights» .entry))) (now (s .entry)) c) (leftIf coded (now («column_widths» .entry)) (now («row_heights» .entry)) «deltas_coded» n (length (now («split_heights» .entry))) (now (s .entry)) c) (sliceTables (now (widths .entry)) (now (heights .entry)) (now («split_present» .entry)) (now («split_counts» .entry)) (now («delta_present» .entry)) (now (deltas .entry)) (now («split_heights» .entry))) (sliceTables (now (widths .exit)) (now (heights .exit)) (now («split_present» .exit)) (now («split_counts» .exit)) (now («delta_present» .exit)) (now (deltas .exit)) (now («split_heights» .exit))) (r .count) (r .next) ⌝ }
+    ensures { λ r. ⌜ SlicesRead (slicesIf coded (now («column_widths» .entry)) (now («row_heights» .entry)) «deltas_coded» n (length (now («split_heights» .entry))) (now (s .entry)) c) (leftIf coded (now («column_widths» .entry)) (now («row_heights» .entry)) «deltas_coded» n (length (now («split_heights» .entry))) (now (s .entry)) c) (slicesBefore entries «split_heights») (slicesAfter entries «split_heights») (r .count) (r .next) ⌝ }
 {
     if coded {
         let last = SliceIdx(n);
@@ -77,12 +75,7 @@ pub fn read_coded_slices(
             row_heights,
             deltas_coded,
             last,
-            widths,
-            heights,
-            split_present,
-            split_counts,
-            delta_present,
-            deltas,
+            entries,
             split_heights,
             c,
         );
@@ -108,17 +101,12 @@ pub fn read_slicing(
     several: bool,
     column_widths: &[u32],
     row_heights: &[u32],
-    widths: &mut [u32],
-    heights: &mut [u32],
-    split_present: &mut [u8],
-    split_counts: &mut [u32],
-    delta_present: &mut [u8],
-    deltas: &mut [i32],
+    entries: &mut [[u32; ENTRY_LEN]],
     split_heights: &mut [u32],
     c: Cursor,
 ) -> SlicingRead
-    requires { ⌜ (withinLimits (length (now «column_widths»)) (length (now «row_heights»)) ≡ true) × (1000 ≤ length (now «split_heights»)) ⌝ }
-    ensures { λ r. ⌜ Sliced (gridOf (now («column_widths» .entry)) (now («row_heights» .entry))) several (now (s .entry)) c (sliceTables (now (widths .entry)) (now (heights .entry)) (now («split_present» .entry)) (now («split_counts» .entry)) (now («delta_present» .entry)) (now (deltas .entry)) (now («split_heights» .entry))) (sliceTables (now (widths .exit)) (now (heights .exit)) (now («split_present» .exit)) (now («split_counts» .exit)) (now («delta_present» .exit)) (now (deltas .exit)) (now («split_heights» .exit))) (flagsOf r) (r .«num_rect_slices») (r .«across_slices») (r .next) ⌝ }
+    requires { ⌜ (withinLimits (length (now «column_widths»)) (length (now «row_heights»)) ≡ true) × (maxSlices ≤ length (now «split_heights»)) ⌝ }
+    ensures { λ r. ⌜ Sliced (gridOf (now («column_widths» .entry)) (now («row_heights» .entry))) several (now (s .entry)) c (slicesBefore entries «split_heights») (slicesAfter entries «split_heights») (flagsOf r) (r .«num_rect_slices») (r .«across_slices») (r .next) ⌝ }
 {
     let f = read_flags(s, several, c);
     let coded = (f.rect != 0) & (f.single == 0);
@@ -129,12 +117,7 @@ pub fn read_slicing(
         row_heights,
         f.deltas != 0,
         f.num_slices_minus1,
-        widths,
-        heights,
-        split_present,
-        split_counts,
-        delta_present,
-        deltas,
+        entries,
         split_heights,
         f.next,
     );
@@ -171,18 +154,13 @@ pub fn no_slicing(c: Cursor) -> SlicingRead
 // The same over a grid, which is within its limits unless reading was refused.
 pub fn read_in_grid(
     s: &[u8],
-    grid: TileGrid,
-    widths: &mut [u32],
-    heights: &mut [u32],
-    split_present: &mut [u8],
-    split_counts: &mut [u32],
-    delta_present: &mut [u8],
-    deltas: &mut [i32],
+    grid: GridSizes,
+    entries: &mut [[u32; ENTRY_LEN]],
     split_heights: &mut [u32],
     c: Cursor,
 ) -> SlicingRead
-    requires { ⌜ (c .refused ≡ 0 → (withinLimits (grid .«num_tile_columns») (grid .«num_tile_rows») ≡ true) × (1000 ≤ length (now «split_heights»))) ⌝ }
-    ensures { λ r. ⌜ ((g : Grid) → (c .refused ≡ 0 → GridIs g grid) → Sliced g (several g) (now (s .entry)) c (sliceTables (now (widths .entry)) (now (heights .entry)) (now («split_present» .entry)) (now («split_counts» .entry)) (now («delta_present» .entry)) (now (deltas .entry)) (now («split_heights» .entry))) (sliceTables (now (widths .exit)) (now (heights .exit)) (now («split_present» .exit)) (now («split_counts» .exit)) (now («delta_present» .exit)) (now (deltas .exit)) (now («split_heights» .exit))) (flagsOf r) (r .«num_rect_slices») (r .«across_slices») (r .next)) ⌝ }
+    requires { ⌜ (c .refused ≡ 0 → (withinLimits (grid .«num_tile_columns») (grid .«num_tile_rows») ≡ true) × (maxSlices ≤ length (now «split_heights»))) ⌝ }
+    ensures { λ r. ⌜ ((g : Grid) → (c .refused ≡ 0 → GridIs g grid) → Sliced g (several g) (now (s .entry)) c (slicesBefore entries «split_heights») (slicesAfter entries «split_heights») (flagsOf r) (r .«num_rect_slices») (r .«across_slices») (r .next)) ⌝ }
 {
     if c.refused != 0 {
         return no_slicing(c);
@@ -197,12 +175,7 @@ pub fn read_in_grid(
         several,
         &column_widths[..columns],
         &row_heights[..rows],
-        widths,
-        heights,
-        split_present,
-        split_counts,
-        delta_present,
-        deltas,
+        entries,
         split_heights,
         c,
     )

@@ -1,8 +1,4 @@
-// The front of the partition block: the CTU size and the explicit tile sizes, and the grid that they give (H.266 7.3.2.5, 6.5.1).
-ghost use mathlib.Core.Path.{_≡_};
-ghost use Prim.Native.Nat.{min};
-ghost use lib.ListN.{take};
-ghost use Rattle.tile_grid.specs.Answers.{gridAnswer};
+// The front of the partition block: the CTU size and the explicit tile sizes (H.266 7.3.2.5).
 ghost use Rattle.syntax.specs.Syntax.{parse};
 ghost use Rattle.pps_partition.specs.TileSizes.{tileSizes};
 ghost use Rattle.pps_partition.specs.TilesStored.{TilesStored};
@@ -11,9 +7,9 @@ use bit_reader::guarded::demand;
 use bit_reader::small_u;
 use bit_reader::ue;
 use pps_fields::lists::read_sizes;
-use pps_record::in_ctbs;
-use tile_grid::GridAnswer;
-use tile_grid::TileGrid;
+use tile_sizes::MAX_TILE_COLUMNS;
+use tile_sizes::MAX_TILES;
+use tile_sizes::in_ctbs;
 
 // The CTU size field, and how many explicit sizes are in the tables.
 pub struct TileSizesRead {
@@ -40,10 +36,18 @@ pub fn read_tile_sizes(
     let h = in_ctbs(height, ctu.value);
     let columns = ue(s, sized);
     let rows = ue(s, columns.next);
-    let few = (columns.value < TileGrid::MAX_TILE_COLUMNS) & (rows.value < TileGrid::MAX_TILES);
+    let few = (columns.value < MAX_TILE_COLUMNS) & (rows.value < MAX_TILES);
     let counted = demand(few, 10, rows.next);
-    let widths = read_sizes(s, columns.value + 1, w, 11, tile_column_widths, 0, counted);
-    let heights = read_sizes(s, rows.value + 1, h, 11, tile_row_heights, 0, widths.next);
+    let widths = read_sizes(
+        s,
+        columns.value + 1,
+        w.0,
+        11,
+        tile_column_widths,
+        0,
+        counted,
+    );
+    let heights = read_sizes(s, rows.value + 1, h.0, 11, tile_row_heights, 0, widths.next);
     let next = heights.next;
     TileSizesRead {
         ctu: ctu.value,
@@ -51,28 +55,4 @@ pub fn read_tile_sizes(
         rows: heights.count,
         next,
     }
-}
-
-fn at_most(n: u32, len: usize) -> usize
-    ensures { λ r. ⌜ r ≡ min n len ⌝ }
-{
-    let m = n as usize;
-    if m < len { m } else { len }
-}
-
-// The grid of the first so many sizes of two tables.
-pub fn grid_of(
-    width: u32,
-    height: u32,
-    ctu: u8,
-    widths: &[u32],
-    columns: u32,
-    heights: &[u32],
-    rows: u32,
-) -> GridAnswer
-    ensures { λ r. ⌜ r ≡ gridAnswer width height ctu (take columns (now (widths .entry))) (take rows (now (heights .entry))) ⌝ }
-{
-    let a = at_most(columns, widths.len());
-    let b = at_most(rows, heights.len());
-    TileGrid::new(width, height, ctu, &widths[..a], &heights[..b])
 }

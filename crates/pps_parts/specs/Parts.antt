@@ -1,9 +1,8 @@
 -- The two parts of a set around its partition block, as they are handed over: a list by its length in the record's block.
 use Prim.Native.Nat.{ℕ}
-use mathlib.Core.List.{List, map}
+use mathlib.Core.List.{List}
 use mathlib.Core.Bool.{Bool}
 use mathlib.Core.Path.{_≡_, refl, _∙_}
-use lib.IntN.{ℤ}
 use lib.Seq.{sets}
 use Rattle.bit_reader.specs.declared.Cursor.{Cursor}
 use Rattle.pps_record.specs.declared.VvcPpsChromaToolOffsets.{VvcPpsChromaToolOffsets}
@@ -15,10 +14,11 @@ use Rattle.pps_record.specs.declared.groups.PictureHeaderFlags.{PictureHeaderFl
 use Rattle.pps_record.specs.declared.groups.PictureKind.{PictureKind}
 use Rattle.pps_record.specs.declared.groups.References.{References}
 use Rattle.pps_record.specs.declared.VvcPpsSubpicIdMapping.{VvcPpsSubpicIdMapping}
+use Rattle.pps_record.specs.declared.VvcQpOffsets.{VvcQpOffsets}
 use Rattle.pps_syntax.specs.Chroma.{ChromaToolOffsets}
 use Rattle.pps_syntax.specs.Deblocking.{deblocking}
 use Rattle.pps_syntax.specs.Pps.{Front, Back}
-use Rattle.pps_syntax.specs.Record.{mappingOf, chromaOf, rowOf}
+use Rattle.pps_syntax.specs.Record.{mappingOf, chromaOf, triplesOf}
 use Rattle.pps_syntax.specs.SubpicIds.{SubpicIds}
 use Rattle.syntax.specs.Element.{Parsed, parsed}
 use Rattle.syntax.specs.Elements.{isSet}
@@ -41,7 +41,7 @@ frontOf p =
 unfoldable pub backOf : Parsed Back → BackRead
 backOf p =
     let b : Back = p .value in
-    record { references = b .references; chroma = chromaOf (b .chroma); deblocking = b .deblocking; «picture_header» = b .pictureHeader; next = p .next }
+    record { references = b .references; chroma = chromaOf (b .chroma); triples = triplesOf (b .chroma .list); deblocking = b .deblocking; «picture_header» = b .pictureHeader; next = p .next }
 
 -- ---- a part is as its description has it once its groups are
 pub front-made : {h : Head} {w : VvcPpsConfWinOffsets} {v : VvcPpsScalingWinOffsets} {k : PictureKind} {m : VvcPpsSubpicIdMapping} {d : Cursor} {t : List ℕ} (t₀ : List ℕ) (p : Parsed SubpicIds) {x : Parsed Front}
@@ -56,9 +56,9 @@ pub behind-chroma : (parted : Bool) (s : List ℕ) (p : Parsed ChromaToolOffsets
     → x ≡ parse (deblocking parted (isSet (t .present))) s d → x ≡ parse (deblocking parted (isSet (p .value .present))) s (p .next)
 behind-chroma parted s p e f g = g ∙ rw (e, f) refl
 
-pub back-made : {r : References} {t : VvcPpsChromaToolOffsets} {b : VvcPpsDeblocking} {h : PictureHeaderFlags} {n d : Cursor} {l : List (List ℤ)} (l₀ : List (List ℤ)) (p : Parsed ChromaToolOffsets) {x : Parsed Back}
+pub back-made : {r : References} {t : VvcPpsChromaToolOffsets} {b : VvcPpsDeblocking} {h : PictureHeaderFlags} {n d : Cursor} {l : List VvcQpOffsets} (p : Parsed ChromaToolOffsets) {x : Parsed Back}
     → parsed (record { references = r; chroma = p .value; deblocking = b; pictureHeader = h }) d ≡ x
-    → (t ≡ chromaOf (p .value)) × ((n ≡ p .next) × (l ≡ sets l₀ 0 (map rowOf (p .value .list))))
-    → (record { references = r; chroma = t; deblocking = b; «picture_header» = h; next = d } ≡ backOf x) × (l ≡ sets l₀ 0 (map rowOf (x .value .chroma .list)))
+    → (t ≡ chromaOf (p .value)) × ((n ≡ p .next) × (l ≡ triplesOf (p .value .list)))
+    → record { references = r; chroma = t; triples = l; deblocking = b; «picture_header» = h; next = d } ≡ backOf x
 unfolding backOf
-back-made l₀ p e f = rw (← e) (rw (f .0), f .1 .1)
+back-made p e f = rw (← e) (rw (f .0, f .1 .1))

@@ -1,10 +1,8 @@
 // The two parts of a set around its partition block.
-ghost use mathlib.Core.List.{map};
 ghost use mathlib.Core.Path.{_≡_};
 ghost use lib.Seq.{sets};
 ghost use Rattle.syntax.specs.Syntax.{parse};
 ghost use Rattle.pps_syntax.specs.Pps.{front, back};
-ghost use Rattle.pps_syntax.specs.Record.{rowOf};
 ghost use Rattle.pps_parts.specs.Parts.{frontOf, backOf};
 use bit_reader::Cursor;
 use pps_blocks::chroma::read_chroma;
@@ -21,6 +19,7 @@ use pps_record::VvcPpsConfWinOffsets;
 use pps_record::VvcPpsDeblocking;
 use pps_record::VvcPpsScalingWinOffsets;
 use pps_record::VvcPpsSubpicIdMapping;
+use pps_record::VvcQpOffsets;
 use pps_record::groups::Head;
 use pps_record::groups::PictureHeaderFlags;
 use pps_record::groups::PictureKind;
@@ -68,20 +67,21 @@ pub fn read_front(s: &[u8], ids: &mut [u32], c: Cursor) -> FrontRead
 pub struct BackRead {
     pub references: References,
     pub chroma: VvcPpsChromaToolOffsets,
+    pub triples: [VvcQpOffsets; 6],
     pub deblocking: VvcPpsDeblocking,
     pub picture_header: PictureHeaderFlags,
     pub next: Cursor,
 }
 
-// What stands behind it; the chroma list goes into the front of its table.
-pub fn read_back(s: &[u8], partitioned: bool, triples: &mut [[i32; 3]; 6], c: Cursor) -> BackRead
-    ensures value { λ r. ⌜ r ≡ backOf (parse (back partitioned) (now (s .entry)) c) ⌝ }
-    ensures table { λ _. ⌜ now (triples .exit) ≡ sets (now (triples .entry)) 0 (map rowOf (parse (back partitioned) (now (s .entry)) c .value .chroma .list)) ⌝ }
+// What stands behind it, the triples of the chroma list by value.
+pub fn read_back(s: &[u8], partitioned: bool, c: Cursor) -> BackRead
+    ensures { λ r. ⌜ r ≡ backOf (parse (back partitioned) (now (s .entry)) c) ⌝ }
 {
     let r = read_references(s, c);
     let references = r.value;
-    let t = read_chroma(s, triples, r.next);
+    let t = read_chroma(s, r.next);
     let chroma = t.value;
+    let triples = t.triples;
     let with_chroma = chroma.present != 0;
     let d = read_deblocking(s, partitioned, with_chroma, t.next);
     let deblocking = d.value;
@@ -93,6 +93,7 @@ pub fn read_back(s: &[u8], partitioned: bool, triples: &mut [[i32; 3]; 6], c: Cu
     BackRead {
         references,
         chroma,
+        triples,
         deblocking,
         picture_header,
         next,

@@ -13,11 +13,12 @@ use Rattle.syntax.specs.Element.{Element}
 use Rattle.syntax.specs.Elements.{u, ue, limited, absent, sameℕ, orElse}
 use Rattle.syntax.specs.Lists.{many, none}
 use Rattle.syntax.specs.WriteSteps.{writes-or}
+use Rattle.pps_syntax.specs.SubpicIds.{maxSubpicsMinus1}
 use Rattle.pps_put.specs.Each.{each, many-each, take-cut}
 
 -- pps_num_subpics_minus1: coded in a partitioned picture, else 0
 abbrev pub numSubpics : Bool → Bool → Element ℕ
-numSubpics on partitioned = orElse (on && partitioned) (limited ue (λ v. leb v 999) 8 (lit< tt)) (absent sameℕ 0 (cond on 26 0))
+numSubpics on partitioned = orElse (on && partitioned) (limited ue (λ v. leb v maxSubpicsMinus1) 8 (lit< tt)) (absent sameℕ 0 (cond on 26 0))
 
 abbrev pub idLength : Bool → Element ℕ
 idLength on = orElse on (limited ue (λ v. leb v 15) 8 (lit< tt)) (absent sameℕ 0 0)
@@ -27,7 +28,7 @@ abbrev pub idList : Bool → ℕ → ℕ → Element (List ℕ)
 idList on num len = orElse on (many (suc num) (u (suc (min len 15)) 27) 27) (none 0)
 
 module _ (w : Writing) {x : Writing} where
-  pub num-coded : (on partitioned : Bool) (v : ℕ) → on ≡ true → partitioned ≡ true → x ≡ play w (check (leb v 999) 8 ++ ueSymbols v) → x ≡ play w (numSubpics on partitioned .symbols v)
+  pub num-coded : (on partitioned : Bool) (v : ℕ) → on ≡ true → partitioned ≡ true → x ≡ play w (check (leb v maxSubpicsMinus1) 8 ++ ueSymbols v) → x ≡ play w (numSubpics on partitioned .symbols v)
   unfolding orElse
   num-coded on partitioned v e f h = rw (e, f) h
 

@@ -1,68 +1,79 @@
 // The chroma tool offsets block. Its list of up to six triples of offsets is passed beside the record.
 ghost use mathlib.Core.Path.{_≡_};
 ghost use mathlib.Core.Bool.{not, _&&_, _||_};
-ghost use mathlib.Core.List.{[]};
-ghost use Prim.Native.Nat.{suc, _-_, _≤_, _<_, min};
+ghost use Prim.Native.Nat.{suc, _-_, _≤_, min};
 ghost use lib.Dec.{ltb, leb};
-ghost use lib.IntN.{pos};
 ghost use lib.ListN.{length, getD};
 ghost use Rattle.bit_writer.specs.Writing.{sinkOver, play};
 ghost use Rattle.syntax.specs.Elements.{orElse};
 ghost use Rattle.syntax.specs.Lists.{many, none};
 ghost use Rattle.syntax.specs.Syntax.{symbolsFor};
 ghost use Rattle.pps_syntax.specs.Chroma.{chroma, triple, tripleElement};
-ghost use Rattle.pps_syntax.specs.FromRecord.{chromaFrom, triplesFrom};
+ghost use Rattle.pps_syntax.specs.FromRecord.{chromaFrom, tripleOf, triplesFrom};
 ghost use Rattle.pps_put.specs.Each.{each};
-ghost use Rattle.pps_put_blocks.specs.ChromaPut.{tripleWith, listOf};
+ghost use Rattle.pps_put_blocks.specs.ChromaPut.{noOffsets, listOf};
 use bit_writer::Sink;
 use pps_put::leaves;
 use pps_record::VvcPpsChromaToolOffsets;
+use pps_record::VvcQpOffsets;
 
 // One triple; its third offset is coded only with the joint flag.
-fn put_triple(w: Sink, out: &mut [u8], joint: bool, cb: i32, cr: i32, third: i32) -> Sink
-    ensures { λ r. ⌜ sinkOver r (now (out .exit)) ≡ play (sinkOver w (now (out .entry))) (symbolsFor (triple joint) (tripleWith cb cr third)) ⌝ }
+fn put_triple(w: Sink, out: &mut [u8], joint: bool, t: VvcQpOffsets) -> Sink
+    ensures { λ r.
+        ⌜ sinkOver r (now (out .exit))
+        ≡ play (sinkOver w (now (out .entry))) (symbolsFor (triple joint) (tripleOf t)) ⌝ }
 {
-    let a = leaves::put_offset(w, out, cb);
-    let b = leaves::put_offset(a, out, cr);
-    leaves::put_offset_if(b, out, joint, third)
+    let offsets = t.0;
+    let a = leaves::put_offset(w, out, offsets[0]);
+    let b = leaves::put_offset(a, out, offsets[1]);
+    leaves::put_offset_if(b, out, joint, offsets[2])
 }
 
-// Offset `j` of row `i`, 0 past the last row.
-fn offset_at(rows: [[i32; 3]; 6], i: usize, j: usize) -> i32
-    requires { ⌜ j < 3 ⌝ }
-    ensures { λ r. ⌜ r ≡ getD (getD rows i []) j (pos 0) ⌝ }
+// Triple `i`, zeros after the last.
+fn triple_at(triples: [VvcQpOffsets; 6], i: usize) -> VvcQpOffsets
+    ensures { λ r. ⌜ tripleOf r ≡ tripleOf (getD triples i noOffsets) ⌝ }
 {
     if i < 6 {
-        return rows[i][j];
+        return triples[i];
     }
-    0
+    VvcQpOffsets([0; 3])
 }
 
 // `n` triples, the seventh of zeros.
-fn put_triples(w: Sink, out: &mut [u8], joint: bool, n: u32, rows: [[i32; 3]; 6]) -> Sink
+fn put_triples(w: Sink, out: &mut [u8], joint: bool, n: u32, triples: [VvcQpOffsets; 6]) -> Sink
     requires { ⌜ n ≤ 7 ⌝ }
-    ensures { λ r. ⌜ sinkOver r (now (out .exit)) ≡ play (sinkOver w (now (out .entry))) (each (tripleElement joint) (triplesFrom n rows)) ⌝ }
+    ensures { λ r.
+        ⌜ sinkOver r (now (out .exit))
+        ≡ play (sinkOver w (now (out .entry))) (each (tripleElement joint) (triplesFrom n triples)) ⌝ }
 {
-    let mut t = w;
+    let mut s = w;
     let mut i: u32 = 0;
     while i < n {
-        let at = i as usize;
-        let cb = offset_at(rows, at, 0);
-        let cr = offset_at(rows, at, 1);
-        let third = offset_at(rows, at, 2);
-        t = put_triple(t, out, joint, cb, cr, third);
+        let t = triple_at(triples, i as usize);
+        s = put_triple(s, out, joint, t);
         i += 1;
     }
-    t
+    s
 }
 
 // The triples of a list of `n`, where there is one.
-fn put_list(w: Sink, out: &mut [u8], listed: bool, joint: bool, n: u32, rows: [[i32; 3]; 6]) -> Sink
+fn put_list(
+    w: Sink,
+    out: &mut [u8],
+    listed: bool,
+    joint: bool,
+    n: u32,
+    triples: [VvcQpOffsets; 6],
+) -> Sink
     requires { ⌜ n ≤ 7 ⌝ }
-    ensures { λ r. ⌜ sinkOver r (now (out .exit)) ≡ play (sinkOver w (now (out .entry))) (orElse listed (many (suc (length (listOf listed n rows) - 1)) (tripleElement joint) 21) (none 0) .symbols (listOf listed n rows)) ⌝ }
+    ensures { λ r.
+        ⌜ sinkOver r (now (out .exit))
+        ≡ play (sinkOver w (now (out .entry)))
+        (orElse listed (many (suc (length (listOf listed n triples) - 1)) (tripleElement joint) 21) (none 0)
+        .symbols (listOf listed n triples)) ⌝ }
 {
     if listed {
-        let a = put_triples(w, out, joint, n, rows);
+        let a = put_triples(w, out, joint, n, triples);
         return bit_writer::demand(a, 0 < n, 21);
     }
     w
@@ -104,9 +115,11 @@ pub fn put_chroma(
     w: Sink,
     out: &mut [u8],
     c: VvcPpsChromaToolOffsets,
-    triples: [[i32; 3]; 6],
+    triples: [VvcQpOffsets; 6],
 ) -> Sink
-    ensures { λ r. ⌜ sinkOver r (now (out .exit)) ≡ play (sinkOver w (now (out .entry))) (symbolsFor chroma (chromaFrom c triples)) ⌝ }
+    ensures { λ r.
+        ⌜ sinkOver r (now (out .exit))
+        ≡ play (sinkOver w (now (out .entry))) (symbolsFor chroma (chromaFrom c triples)) ⌝ }
 {
     let on = c.present != 0;
     let joint = leaves::both(on, c.pps_joint_cbcr_qp_offset_present_flag != 0);

@@ -16,7 +16,9 @@ pub fn put_deblocking(
     with_chroma: bool,
     v: VvcPpsDeblocking,
 ) -> Sink
-    ensures { λ r. ⌜ sinkOver r (now (out .exit)) ≡ play (sinkOver w (now (out .entry))) (symbolsFor (deblocking partitioned «with_chroma») v) ⌝ }
+    ensures { λ r.
+        ⌜ sinkOver r (now (out .exit))
+        ≡ play (sinkOver w (now (out .entry))) (symbolsFor (deblocking partitioned «with_chroma») v) ⌝ }
 {
     let on = v.present != 0;
     let info = both(

@@ -14,13 +14,16 @@ ghost use Rattle.pps_put_blocks.specs.SubpicIdsPut.{numSubpics, idList};
 use bit_writer::Sink;
 use pps_put::leaves;
 use pps_record::VvcPpsSubpicIdMapping;
+use pps_record::lengths::MAX_NUM_SUBPICS_MINUS1;
 
 fn put_num(w: Sink, out: &mut [u8], on: bool, partitioned: bool, num: u32) -> Sink
-    ensures { λ r. ⌜ sinkOver r (now (out .exit)) ≡ play (sinkOver w (now (out .entry))) (numSubpics on partitioned .symbols num) ⌝ }
+    ensures { λ r.
+        ⌜ sinkOver r (now (out .exit))
+        ≡ play (sinkOver w (now (out .entry))) (numSubpics on partitioned .symbols num) ⌝ }
 {
     if on {
         if partitioned {
-            return leaves::put_ue_tested(w, out, num <= 999, 8, num);
+            return leaves::put_ue_tested(w, out, num <= MAX_NUM_SUBPICS_MINUS1, 8, num);
         }
         return bit_writer::demand(w, num == 0, 26);
     }
@@ -30,7 +33,9 @@ fn put_num(w: Sink, out: &mut [u8], on: bool, partitioned: bool, num: u32) -> Si
 // The first `n` ids of the table, of `bits` bits each.
 fn put_each(w: Sink, out: &mut [u8], ids: &[u32], n: usize, bits: u32) -> Sink
     requires { ⌜ (n ≤ length (now ids)) × (bits ≤ 32) ⌝ }
-    ensures { λ r. ⌜ sinkOver r (now (out .exit)) ≡ play (sinkOver w (now (out .entry))) (each (u bits 27) (take n (now (ids .entry)))) ⌝ }
+    ensures { λ r.
+        ⌜ sinkOver r (now (out .exit))
+        ≡ play (sinkOver w (now (out .entry))) (each (u bits 27) (take n (now (ids .entry)))) ⌝ }
 {
     let mut t = w;
     let mut i = 0;
@@ -62,7 +67,10 @@ fn id_bits(len: u32) -> u32
 
 // `num` + 1 ids out of a list of `count`, and the test that there are so many.
 fn put_list(w: Sink, out: &mut [u8], on: bool, num: u32, len: u32, count: u32, ids: &[u32]) -> Sink
-    ensures { λ r. ⌜ sinkOver r (now (out .exit)) ≡ play (sinkOver w (now (out .entry))) (idList on num len .symbols (cond on (take count (now (ids .entry))) [])) ⌝ }
+    ensures { λ r.
+        ⌜ sinkOver r (now (out .exit))
+        ≡ play (sinkOver w (now (out .entry)))
+        (idList on num len .symbols (cond on (take count (now (ids .entry))) [])) ⌝ }
 {
     if on {
         let wanted = num as usize + 1;
@@ -83,7 +91,10 @@ pub fn put_subpic_ids(
     m: VvcPpsSubpicIdMapping,
     ids: &[u32],
 ) -> Sink
-    ensures { λ r. ⌜ sinkOver r (now (out .exit)) ≡ play (sinkOver w (now (out .entry))) (symbolsFor (subpicIds partitioned) (subpicIdsFrom m (now (ids .entry)))) ⌝ }
+    ensures { λ r.
+        ⌜ sinkOver r (now (out .exit))
+        ≡ play (sinkOver w (now (out .entry)))
+        (symbolsFor (subpicIds partitioned) (subpicIdsFrom m (now (ids .entry)))) ⌝ }
 {
     let on = m.present != 0;
     let len = m.pps_subpic_id_len_minus1;

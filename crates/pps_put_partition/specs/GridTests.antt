@@ -1,4 +1,4 @@
--- The tests of the grid, as `TileGrid::new` makes them: the number of the first check that fails does for all of them.
+-- The tests of the grid, as `grid_sizes` makes them: the number of the first check that fails does for all of them.
 use Prim.Native.Nat.{ℕ, _-_, _/_, _<_}
 use mathlib.Core.Path.{_≡_, refl, sym, ap, _∙_}
 use mathlib.Core.List.{List, [], _∷_, _++_}
@@ -11,20 +11,18 @@ use Rattle.codes.specs.Coded.{ueSymbols}
 use Rattle.codes.specs.Symbols.{Symbol, check, check-true, refuse, first}
 use Rattle.bit_writer.specs.Writing.{Writing, play}
 use Rattle.partition.specs.Checks as checks
-use Rattle.partition.specs.Checks.{Check, refusedWith, firstBad, numberOf, AllPass, Numbered}
+use Rattle.partition.specs.Checks.{Check, refusedWith, firstBad, numberOf, AllPass, Numbered, not-past}
 use Rattle.partition.specs.Entry.{someAtLeast}
 use Rattle.partition.specs.Grid.{maxTileColumns, maxTiles}
 use Rattle.partition.specs.Partition.{inCtbs, explicitChecks, axisChecks, gridChecks}
 use Rattle.partition.specs.Sizes.{sum, explicitSizes, axisSizes}
 use Rattle.syntax.specs.Lists.{not-true}
 use Rattle.syntax.specs.Round.{and-parts}
-use Rattle.pps_syntax.specs.PartitionSyntax.{some}
+use Rattle.pps_syntax.specs.PartitionSyntax.{some, ctuSize, explicit}
 use Rattle.pps_syntax.specs.SameTests.{not-under}
-use Rattle.tile_grid.specs.declared.GridAnswer.{GridAnswer}
-use Rattle.tile_grid.specs.Answers.{gridAnswer}
-use Rattle.tile_grid.specs.Laws.{grid-number}
-use Rattle.pps_slices.specs.EntryMade.{not-past}
-use Rattle.pps_partition.specs.TileSizes.{ctuSize, explicit}
+use Rattle.grid_sizes.specs.declared.SizesAnswer.{SizesAnswer}
+use Rattle.grid_sizes.specs.Answers.{gridSizes}
+use Rattle.grid_sizes.specs.Laws.{grid-number}
 use Rattle.pps_put_slices.specs.Stop.{playOn, on-none, on-append, on-check, on-refused, passed}
 use Rattle.pps_put_slices.specs.Sizes.{sizeSymbols, sizesSymbols}
 use Rattle.pps_put_slices.specs.PartsMade.{none-before}
@@ -130,13 +128,13 @@ module _ (W H ctu : ℕ) (ws hs : List ℕ) (w : Writing) where
       )
 
   -- the answer's number does for the four tests
-  pub grid-put : {a b : Writing} {r : GridAnswer} → a ≡ tilesPut W H ctu ws hs w → r ≡ gridAnswer W H ctu ws hs → b ≡ play a (check (eqb (r .refused) 0) (r .refused)) → b ≡ gridPut W H ctu ws hs (tilesPut W H ctu ws hs w)
+  pub grid-put : {a b : Writing} {r : SizesAnswer} → a ≡ tilesPut W H ctu ws hs w → r ≡ gridSizes W H ctu ws hs → b ≡ play a (check (eqb (r .refused) 0) (r .refused)) → b ≡ gridPut W H ctu ws hs (tilesPut W H ctu ws hs w)
   unfolding gridPut gridChecks explicitChecks axisChecks Numbered
   grid-put {a} {b} {r} e f h = cases (eqb (a .sink .refused) 0) refl ∙ ap (gridPut W H ctu ws hs) e
     where
       cases : (t : Bool) → eqb (a .sink .refused) 0 ≡ t → b ≡ gridPut W H ctu ws hs a
       cases true z =
-          let number : r .refused ≡ numberOf (firstBad (gridChecks W H ctu ws hs)) = ap (λ (x : GridAnswer). x .refused) f ∙ grid-number W H ctu ws hs in
+          let number : r .refused ≡ numberOf (firstBad (gridChecks W H ctu ws hs)) = ap (λ (x : SizesAnswer). x .refused) f ∙ grid-number W H ctu ws hs in
           h ∙ sym (on-check a (eqb (r .refused) 0) (r .refused)) ∙ ap (λ (n : ℕ). playOn a (check (eqb n 0) n)) number
           ∙ checks-first (gridChecks W H ctu ws hs) a (lit< tt, (lit< tt, (lit< tt, (lit< tt, (lit< tt, (lit< tt, (lit< tt, (lit< tt, (lit< tt, tt)))))))))
           ∙ grid-checks a (eqb-true _ _ z) (sym e)

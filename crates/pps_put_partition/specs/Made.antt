@@ -11,13 +11,12 @@ use Rattle.codes.specs.Bits.{toBits}
 use Rattle.codes.specs.Coded.{flagBit, ueSymbols, onlyIf}
 use Rattle.codes.specs.Symbols.{putting, check, checked, check-none}
 use Rattle.bit_writer.specs.Writing.{Writing, play, play-none}
+use Rattle.partition.specs.Grid.{maxSlicesMinus1}
 use Rattle.partition.specs.Partition.{inCtbs}
 use Rattle.syntax.specs.Elements.{flag, ue, flagIf, limited, sameℕ, orElse}
 use Rattle.syntax.specs.Lists.{many}
 use Rattle.syntax.specs.Round.{and-parts}
-use Rattle.pps_syntax.specs.PartitionSyntax.{some}
-use Rattle.pps_partition.specs.TileSizes.{ctuSize, explicit}
-use Rattle.pps_partition.specs.SliceFlags.{rectFlag, slicesMinus1}
+use Rattle.pps_syntax.specs.PartitionSyntax.{some, ctuSize, explicit, rectFlag, slicesMinus1}
 use Rattle.pps_put_slices.specs.Stop.{playOn, on-none, on-append, on-then, on-refused, on-bits, on-check, passed}
 use Rattle.pps_put_slices.specs.StopSteps.{stops-or, tested}
 use Rattle.pps_put_slices.specs.Sizes.{sizesSymbols, many-sizes}
@@ -43,9 +42,9 @@ pub rect-inferred : (w : Writing) (several : Bool) (v : ℕ) {x : Writing} → s
 unfolding orElse
 rect-inferred w several v e h = rw e (tested w 26 refl h)
 
-pub num-coded : (w : Writing) (on : Bool) (v : ℕ) {a x : Writing} → on ≡ true → a ≡ play w (check (leb v 999) 14) → x ≡ playOn a (ueSymbols v) → x ≡ playOn w (slicesMinus1 on .symbols v)
+pub num-coded : (w : Writing) (on : Bool) (v : ℕ) {a x : Writing} → on ≡ true → a ≡ play w (check (leb v maxSlicesMinus1) 14) → x ≡ playOn a (ueSymbols v) → x ≡ playOn w (slicesMinus1 on .symbols v)
 unfolding orElse
-num-coded w on v e p q = rw e (on-then w (check (leb v 999) 14) (ueSymbols v) (tested w 14 refl p) q)
+num-coded w on v e p q = rw e (on-then w (check (leb v maxSlicesMinus1) 14) (ueSymbols v) (tested w 14 refl p) q)
 
 pub num-none : (w : Writing) (on : Bool) (v : ℕ) → on ≡ false → w ≡ playOn w (slicesMinus1 on .symbols v)
 unfolding orElse

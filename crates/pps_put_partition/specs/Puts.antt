@@ -15,11 +15,9 @@ use Rattle.partition.specs.Sizes.{sum, explicitSizes, axisSizes}
 use Rattle.syntax.specs.Elements.{ue, flagIf, orElse, isSet}
 use Rattle.syntax.specs.Lists.{none}
 use Rattle.syntax.specs.Syntax.{symbolsFor, _for_}
-use Rattle.pps_syntax.specs.PartitionSyntax.{PartitionBlock, partition, some, coded}
+use Rattle.pps_syntax.specs.PartitionSyntax.{PartitionBlock, partition, some, coded, ctuSize, explicit, rectFlag, slicesMinus1, several}
 use Rattle.pps_syntax.specs.SliceSyntax.{RectSlice, rectSlices}
-use Rattle.pps_partition.specs.TileSizes.{ctuSize, explicit}
-use Rattle.pps_partition.specs.SliceFlags.{SliceFlags, codes, rectFlag, slicesMinus1}
-use Rattle.pps_partition.specs.Block.{several}
+use Rattle.pps_syntax.specs.SliceFlags.{SliceFlags, codes}
 use Rattle.pps_put_slices.specs.Stop.{playOn, on-refused}
 use Rattle.pps_put_slices.specs.StopSteps.{stops-done, stops, stops-test, stops-both, stops-past}
 

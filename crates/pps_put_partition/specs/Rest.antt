@@ -12,26 +12,24 @@ use Rattle.codes.specs.Symbols.{Symbol, putting, check, check-true, first, firs
 use Rattle.bit_writer.specs.Writing.{Writing, play, withRefusal, feed}
 use Rattle.bit_writer.specs.Played.{played, feed-refusal}
 use Rattle.codes.specs.Symbols as symbols
-use Rattle.partition.specs.Grid.{Grid, columns, rows, maxTileColumns, maxTiles}
+use Rattle.partition.specs.Grid.{Grid, columns, rows, maxTileColumns, maxTiles, gridOf}
 use Rattle.partition.specs.Partition.{inCtbs, tileGrid}
 use Rattle.partition.specs.Sizes.{sum, explicitSizes, axisSizes}
-use Rattle.tile_grid.specs.declared.TileGrid.{TileGrid}
-use Rattle.tile_grid.specs.declared.GridAnswer.{GridAnswer}
-use Rattle.tile_grid.specs.Answers.{gridAnswer, gridOfSizes}
-use Rattle.tile_grid.specs.Laws.{grid-sizes}
+use Rattle.grid_sizes.specs.declared.GridSizes.{GridSizes}
+use Rattle.grid_sizes.specs.declared.SizesAnswer.{SizesAnswer}
+use Rattle.grid_sizes.specs.Answers.{gridSizes, gridOfSizes}
+use Rattle.grid_sizes.specs.Laws.{grid-sizes}
 use Rattle.pps_record.specs.declared.VvcPpsPartition.{VvcPpsPartition}
 use Rattle.syntax.specs.Elements.{flagIf, orElse, isSet}
 use Rattle.syntax.specs.Lists.{not-true}
 use Rattle.syntax.specs.Syntax.{symbolsFor}
-use Rattle.pps_syntax.specs.FromRecord.{Lent, blockFrom}
-use Rattle.pps_syntax.specs.PartitionSyntax.{PartitionBlock, partition}
+use Rattle.pps_syntax.specs.FromRecord.{lent, blockFrom}
+use Rattle.pps_syntax.specs.PartitionSyntax.{PartitionBlock, partition, several, rectFlag, slicesMinus1}
 use Rattle.pps_syntax.specs.SliceSyntax.{RectSlice}
 use Rattle.pps_syntax.specs.SliceTables.{SliceTables, slicesFrom}
-use Rattle.pps_slices.specs.Limits.{gridOf, withinLimits}
-use Rattle.pps_partition.specs.Answers.{GridIs, front-is}
-use Rattle.pps_partition.specs.TilesStored.{take-most}
-use Rattle.pps_partition.specs.Block.{several}
-use Rattle.pps_partition.specs.SliceFlags.{SliceFlags, codes, rectFlag, slicesMinus1}
+use Rattle.tile_sizes.specs.Limits.{withinLimits}
+use Rattle.grid_sizes.specs.Fronts.{GridIs, front-is, take-most}
+use Rattle.pps_syntax.specs.SliceFlags.{SliceFlags, codes}
 use Rattle.pps_put_slices.specs.Stop.{upToRefusal, playOn, on-check, on-play, passed}
 use Rattle.pps_put_slices.specs.StopSteps.{tested}
 use Rattle.pps_put_slices.specs.PartsMade.{none-before}
@@ -66,10 +64,6 @@ blockWith p ws hs rs =
       rectSlices = rs;
       «pps_loop_filter_across_slices_enabled_flag» = p .«pps_loop_filter_across_slices_enabled_flag»;
     }
-
--- what the partition block takes of the lent tables
-abbrev pub lentTo : List ℕ → List ℕ → SliceTables → Lent
-lentTo ws hs t = record { subpicIds = []; columnWidths = ws; rowHeights = hs; slices = t; triples = [] }
 
 abbrev pub bitIf : Bool → ℕ → List Symbol
 bitIf on v = onlyIf on (putting (flagBit v ∷ []))
@@ -107,17 +101,17 @@ rest-made g several f rs across w {a} {b} p q r =
     (q ∙ ap (slicesPut g (codes f) (isSet (f .«pps_tile_idx_delta_present_flag»)) (f .«pps_num_slices_in_pic_minus1») rs) p)
 
 -- the fronts of the grid's tables are its sizes
-pub rest-in : (g : Grid) (grid : TileGrid) (f : SliceFlags) (rs : List RectSlice) (across : ℕ) (w : Writing) {v : Writing} → GridIs g grid
-    → v ≡ restPut (gridOf (take (grid .«num_tile_columns») (grid .«column_widths»)) (take (grid .«num_tile_rows») (grid .«row_heights»))) (ltb 1 (grid .«num_tile_rows» * grid .«num_tile_columns»)) f rs across w
+pub rest-in : (g : Grid) (sizes : GridSizes) (f : SliceFlags) (rs : List RectSlice) (across : ℕ) (w : Writing) {v : Writing} → GridIs g sizes
+    → v ≡ restPut (gridOf (take (sizes .«num_tile_columns») (sizes .«column_widths»)) (take (sizes .«num_tile_rows») (sizes .«row_heights»))) (ltb 1 (sizes .«num_tile_rows» * sizes .«num_tile_columns»)) f rs across w
     → v ≡ restPut g (several g) f rs across w
-rest-in g grid f rs across w i r =
-    let ws = front-is maxTileColumns (g .columnWidths) (grid .«column_widths») (grid .«num_tile_columns») (i .columnsAre) (i .widthsAre) in
-    let hs = front-is maxTiles (g .rowHeights) (grid .«row_heights») (grid .«num_tile_rows») (i .rowsAre) (i .heightsAre) in
-    let many : ltb 1 (grid .«num_tile_rows» * grid .«num_tile_columns») ≡ several g = rw (i .columnsAre, i .rowsAre) in
+rest-in g sizes f rs across w i r =
+    let ws = front-is maxTileColumns (g .columnWidths) (sizes .«column_widths») (sizes .«num_tile_columns») (i .columnsAre) (i .widthsAre) in
+    let hs = front-is maxTiles (g .rowHeights) (sizes .«row_heights») (sizes .«num_tile_rows») (i .rowsAre) (i .heightsAre) in
+    let many : ltb 1 (sizes .«num_tile_rows» * sizes .«num_tile_columns») ≡ several g = rw (i .columnsAre, i .rowsAre) in
     r ∙ ap₂ (λ (x : Grid) (b : Bool). restPut x b f rs across w) (ap₂ gridOf ws hs) many
 
-module _ (W H : ℕ) (p : VvcPpsPartition) (ws hs : List ℕ) (rs : List RectSlice) (w : Writing) {a b : Writing} {r : GridAnswer}
-    (tilesAre : a ≡ tilesPut W H (p .«pps_log2_ctu_size_minus5») ws hs w) (answerIs : r ≡ gridAnswer W H (p .«pps_log2_ctu_size_minus5») ws hs)
+module _ (W H : ℕ) (p : VvcPpsPartition) (ws hs : List ℕ) (rs : List RectSlice) (w : Writing) {a b : Writing} {r : SizesAnswer}
+    (tilesAre : a ≡ tilesPut W H (p .«pps_log2_ctu_size_minus5») ws hs w) (answerIs : r ≡ gridSizes W H (p .«pps_log2_ctu_size_minus5») ws hs)
     (made : b ≡ play a (check (eqb (r .refused) 0) (r .refused))) where
   abbrev ctu : ℕ
   ctu = p .«pps_log2_ctu_size_minus5»
@@ -149,19 +143,19 @@ module _ (W H : ℕ) (p : VvcPpsPartition) (ws hs : List ℕ) (rs : List RectSli
           above (suc n) q = omega arith
 
   -- unless that is refused, the answer is the grid
-  pub grid-held : b .sink .refused ≡ 0 → GridIs g (r .grid)
+  pub grid-held : b .sink .refused ≡ 0 → GridIs g (r .sizes)
   unfolding gridOfSizes
   grid-held z =
-      let e : r ≡ gridOfSizes (g .columnWidths) (g .rowHeights) = answerIs ∙ grid-sizes W H ctu ws hs (sym (ap (λ (x : GridAnswer). x .refused) answerIs) ∙ accepted z) in
+      let e : r ≡ gridOfSizes (g .columnWidths) (g .rowHeights) = answerIs ∙ grid-sizes W H ctu ws hs (sym (ap (λ (x : SizesAnswer). x .refused) answerIs) ∙ accepted z) in
       record {
-        columnsAre = ap (λ (x : GridAnswer). x .grid .«num_tile_columns») e;
-        rowsAre = ap (λ (x : GridAnswer). x .grid .«num_tile_rows») e;
-        widthsAre = ap (λ (x : GridAnswer). x .grid .«column_widths») e;
-        heightsAre = ap (λ (x : GridAnswer). x .grid .«row_heights») e;
+        columnsAre = ap (λ (x : SizesAnswer). x .sizes .«num_tile_columns») e;
+        rowsAre = ap (λ (x : SizesAnswer). x .sizes .«num_tile_rows») e;
+        widthsAre = ap (λ (x : SizesAnswer). x .sizes .«column_widths») e;
+        heightsAre = ap (λ (x : SizesAnswer). x .sizes .«row_heights») e;
       }
 
   -- and it is within its limits
-  pub grid-limits : b .sink .refused ≡ 0 → withinLimits (r .grid .«num_tile_columns») (r .grid .«num_tile_rows») ≡ true
+  pub grid-limits : b .sink .refused ≡ 0 → withinLimits (r .sizes .«num_tile_columns») (r .sizes .«num_tile_rows») ≡ true
   unfolding gridPut withinLimits tileGrid
   grid-limits z =
       let G = grid-held z in
@@ -201,12 +195,12 @@ first-stays a b h = rw (ne-eqb a 0 (λ e. h e))
 pub front-taken : (n a : ℕ) (l : List ℕ) → a ≡ min n (length l) → take a l ≡ take n l
 front-taken n a l e = ap (λ (k : ℕ). take k l) e ∙ take-most n l
 
-pub front-short : (a : ℕ) (l : List ℕ) → a ≤ 4294967295 → length (take a l) ≤ 4294967295
-front-short a l h = omega (arith, length-take a l)
+pub front-short : (n a : ℕ) (l : List ℕ) → n ≤ 4294967295 → a ≡ min n (length l) → length (take a l) ≤ 4294967295
+front-short n a l h e = omega (arith, length-take a l)
 
 pub partition-made : (W H : ℕ) (p : VvcPpsPartition) (ws hs : List ℕ) (t : SliceTables) (w : Writing) {s v r : Writing} {columns rows n : ℕ} → columns ≡ min (p .«num_tile_column_widths») (length ws) → rows ≡ min (p .«num_tile_row_heights») (length hs)
     → s ≡ withRefusal w 0 → v ≡ playOn s (symbolsFor (partition W H) (blockWith p (take columns ws) (take rows hs) (slicesFrom t 0 0 (p .«num_rect_slices»))))
-    → n ≡ first (w .sink .refused) (v .sink .refused) → r ≡ withRefusal v n → r ≡ play w (upToRefusal (symbolsFor (partition W H) (blockFrom p (lentTo ws hs t))))
+    → n ≡ first (w .sink .refused) (v .sink .refused) → r ≡ withRefusal v n → r ≡ play w (upToRefusal (symbolsFor (partition W H) (blockFrom p (lent [] ws hs t))))
 partition-made W H p ws hs t w {s} {v} {r} {columns} {rows} {n} ec er es ev en h =
     let rs = slicesFrom t 0 0 (p .«num_rect_slices») in
     let symbols : List ℕ → List ℕ → List Symbol = λ x y. symbolsFor (partition W H) (blockWith p x y rs) in

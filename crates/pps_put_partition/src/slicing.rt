@@ -1,13 +1,15 @@
-// The partition block behind its grid: the flags that say how slices are coded, the slices, and the last flag (H.266 7.3.2.5).
+// The partition block behind its grid: the flags that say how slices are coded, the slices, and the last flag (H.266
+// 7.3.2.5).
 ghost use mathlib.Core.Path.{_≡_};
 ghost use mathlib.Core.Bool.{true};
 ghost use lib.ListN.{length};
 ghost use Rattle.bit_writer.specs.Writing.{sinkOver};
-ghost use Rattle.partition.specs.Grid.{Grid};
-ghost use Rattle.pps_syntax.specs.SliceTables.{sliceTables, slicesFrom};
-ghost use Rattle.pps_slices.specs.Limits.{gridOf, withinLimits};
-ghost use Rattle.pps_partition.specs.Answers.{GridIs};
-ghost use Rattle.pps_partition.specs.Block.{several};
+ghost use Rattle.partition.specs.Grid.{Grid, gridOf};
+ghost use Rattle.pps_syntax.specs.SliceTables.{slicesFrom};
+ghost use Rattle.pps_tables.specs.Parameters.{slicesBefore};
+ghost use Rattle.tile_sizes.specs.Limits.{withinLimits};
+ghost use Rattle.grid_sizes.specs.Fronts.{GridIs};
+ghost use Rattle.pps_syntax.specs.PartitionSyntax.{several};
 ghost use Rattle.pps_put_partition.specs.Puts.{flagsPut, slicesPut, restPut};
 ghost use Rattle.pps_put_partition.specs.Rest.{flagsOf};
 use super::flags::put_flag_if;
@@ -15,10 +17,11 @@ use super::flags::put_num_slices;
 use super::flags::put_rect;
 use bit_writer::Sink;
 use bit_writer::demand;
+use grid_sizes::GridSizes;
 use pps_put_slices::put_rect_slices;
 use pps_record::VvcPpsPartition;
+use pps_tables::ENTRY_LEN;
 use slice_loop::SliceIdx;
-use tile_grid::TileGrid;
 
 fn put_flags(w: Sink, out: &mut [u8], several: bool, p: VvcPpsPartition) -> Sink
     ensures { λ r. ⌜ sinkOver r (now (out .exit)) ≡ flagsPut several (flagsOf p) (sinkOver w (now (out .entry))) ⌝ }
@@ -43,16 +46,15 @@ fn put_coded_slices(
     deltas_coded: bool,
     n: u32,
     count: u32,
-    widths: &[u32],
-    heights: &[u32],
-    split_present: &[u8],
-    split_counts: &[u32],
-    delta_present: &[u8],
-    deltas: &[i32],
+    entries: &[[u32; ENTRY_LEN]],
     split_heights: &[u32],
 ) -> Sink
     requires { ⌜ withinLimits (length (now «column_widths»)) (length (now «row_heights»)) ≡ true ⌝ }
-    ensures { λ r. ⌜ sinkOver r (now (out .exit)) ≡ slicesPut (gridOf (now («column_widths» .entry)) (now («row_heights» .entry))) coded «deltas_coded» n (slicesFrom (sliceTables (now (widths .entry)) (now (heights .entry)) (now («split_present» .entry)) (now («split_counts» .entry)) (now («delta_present» .entry)) (now (deltas .entry)) (now («split_heights» .entry))) 0 0 count) (sinkOver w (now (out .entry))) ⌝ }
+    ensures { λ r.
+        let g = gridOf (now («column_widths» .entry)) (now («row_heights» .entry)) in
+        let slices = slicesFrom (slicesBefore entries «split_heights») 0 0 count in
+        ⌜ sinkOver r (now (out .exit))
+        ≡ slicesPut g coded «deltas_coded» n slices (sinkOver w (now (out .entry))) ⌝ }
 {
     if coded {
         let last = SliceIdx(n);
@@ -64,12 +66,7 @@ fn put_coded_slices(
             deltas_coded,
             last,
             count,
-            widths,
-            heights,
-            split_present,
-            split_counts,
-            delta_present,
-            deltas,
+            entries,
             split_heights,
         );
     }
@@ -84,16 +81,16 @@ fn put_slicing(
     p: VvcPpsPartition,
     column_widths: &[u32],
     row_heights: &[u32],
-    widths: &[u32],
-    heights: &[u32],
-    split_present: &[u8],
-    split_counts: &[u32],
-    delta_present: &[u8],
-    deltas: &[i32],
+    entries: &[[u32; ENTRY_LEN]],
     split_heights: &[u32],
 ) -> Sink
     requires { ⌜ withinLimits (length (now «column_widths»)) (length (now «row_heights»)) ≡ true ⌝ }
-    ensures { λ r. ⌜ sinkOver r (now (out .exit)) ≡ restPut (gridOf (now («column_widths» .entry)) (now («row_heights» .entry))) several (flagsOf p) (slicesFrom (sliceTables (now (widths .entry)) (now (heights .entry)) (now («split_present» .entry)) (now («split_counts» .entry)) (now («delta_present» .entry)) (now (deltas .entry)) (now («split_heights» .entry))) 0 0 (p .«num_rect_slices»)) (p .«pps_loop_filter_across_slices_enabled_flag») (sinkOver w (now (out .entry))) ⌝ }
+    ensures { λ r.
+        let g = gridOf (now («column_widths» .entry)) (now («row_heights» .entry)) in
+        let slices = slicesFrom (slicesBefore entries «split_heights») 0 0 (p .«num_rect_slices») in
+        ⌜ sinkOver r (now (out .exit))
+        ≡ restPut g several (flagsOf p) slices (p .«pps_loop_filter_across_slices_enabled_flag»)
+        (sinkOver w (now (out .entry))) ⌝ }
 {
     let coded = (p.pps_rect_slice_flag != 0) & (p.pps_single_slice_per_subpic_flag == 0);
     let n = p.pps_num_slices_in_pic_minus1;
@@ -107,40 +104,34 @@ fn put_slicing(
         p.pps_tile_idx_delta_present_flag != 0,
         n,
         p.num_rect_slices,
-        widths,
-        heights,
-        split_present,
-        split_counts,
-        delta_present,
-        deltas,
+        entries,
         split_heights,
     );
     let one = coded & (n == 0);
     put_flag_if(s, out, !one, p.pps_loop_filter_across_slices_enabled_flag)
 }
 
-// The same over a grid.
+// The same over the sizes of a grid.
 pub fn put_in_grid(
     w: Sink,
     out: &mut [u8],
-    grid: TileGrid,
+    sizes: GridSizes,
     p: VvcPpsPartition,
-    widths: &[u32],
-    heights: &[u32],
-    split_present: &[u8],
-    split_counts: &[u32],
-    delta_present: &[u8],
-    deltas: &[i32],
+    entries: &[[u32; ENTRY_LEN]],
     split_heights: &[u32],
 ) -> Sink
-    requires { ⌜ withinLimits (grid .«num_tile_columns») (grid .«num_tile_rows») ≡ true ⌝ }
-    ensures { λ r. ⌜ ((g : Grid) → GridIs g grid → sinkOver r (now (out .exit)) ≡ restPut g (several g) (flagsOf p) (slicesFrom (sliceTables (now (widths .entry)) (now (heights .entry)) (now («split_present» .entry)) (now («split_counts» .entry)) (now («delta_present» .entry)) (now (deltas .entry)) (now («split_heights» .entry))) 0 0 (p .«num_rect_slices»)) (p .«pps_loop_filter_across_slices_enabled_flag») (sinkOver w (now (out .entry)))) ⌝ }
+    requires { ⌜ withinLimits (sizes .«num_tile_columns») (sizes .«num_tile_rows») ≡ true ⌝ }
+    ensures { λ r.
+        let slices = slicesFrom (slicesBefore entries «split_heights») 0 0 (p .«num_rect_slices») in
+        ⌜ ((g : Grid) → GridIs g sizes → sinkOver r (now (out .exit))
+        ≡ restPut g (several g) (flagsOf p) slices (p .«pps_loop_filter_across_slices_enabled_flag»)
+        (sinkOver w (now (out .entry)))) ⌝ }
 {
-    let several = grid.num_tile_rows as u64 * grid.num_tile_columns as u64 > 1;
-    let columns = grid.num_tile_columns as usize;
-    let rows = grid.num_tile_rows as usize;
-    let column_widths = grid.column_widths;
-    let row_heights = grid.row_heights;
+    let several = sizes.num_tile_rows as u64 * sizes.num_tile_columns as u64 > 1;
+    let columns = sizes.num_tile_columns as usize;
+    let rows = sizes.num_tile_rows as usize;
+    let column_widths = sizes.column_widths;
+    let row_heights = sizes.row_heights;
     put_slicing(
         w,
         out,
@@ -148,12 +139,7 @@ pub fn put_in_grid(
         p,
         &column_widths[..columns],
         &row_heights[..rows],
-        widths,
-        heights,
-        split_present,
-        split_counts,
-        delta_present,
-        deltas,
+        entries,
         split_heights,
     )
 }

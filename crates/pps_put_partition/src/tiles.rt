@@ -3,7 +3,7 @@ ghost use mathlib.Core.Path.{_≡_};
 ghost use Prim.Native.Nat.{_≤_};
 ghost use lib.ListN.{length};
 ghost use Rattle.bit_writer.specs.Writing.{sinkOver};
-ghost use Rattle.pps_partition.specs.TileSizes.{ctuSize};
+ghost use Rattle.pps_syntax.specs.PartitionSyntax.{ctuSize};
 ghost use Rattle.pps_put_slices.specs.Stop.{playOn};
 ghost use Rattle.pps_put_partition.specs.Puts.{tilesPut};
 use bit_writer::Sink;
@@ -11,7 +11,7 @@ use bit_writer::demand;
 use bit_writer::put_bits;
 use pps_put_slices::leaves::put_sizes;
 use pps_put_slices::leaves::put_ue;
-use pps_record::in_ctbs;
+use tile_sizes::in_ctbs;
 
 // pps_log2_ctu_size_minus5; 9 over 2.
 fn put_ctu_size(w: Sink, out: &mut [u8], v: u8) -> Sink
@@ -35,7 +35,9 @@ pub fn put_tile_sizes(
     heights: &[u32],
 ) -> Sink
     requires { ⌜ (length (now widths) ≤ 4294967295) × (length (now heights) ≤ 4294967295) ⌝ }
-    ensures { λ r. ⌜ sinkOver r (now (out .exit)) ≡ tilesPut width height ctu (now (widths .entry)) (now (heights .entry)) (sinkOver w (now (out .entry))) ⌝ }
+    ensures { λ r.
+        ⌜ sinkOver r (now (out .exit))
+        ≡ tilesPut width height ctu (now (widths .entry)) (now (heights .entry)) (sinkOver w (now (out .entry))) ⌝ }
 {
     let a = put_ctu_size(w, out, ctu);
     let there = (widths.len() != 0) & (heights.len() != 0);
@@ -46,7 +48,7 @@ pub fn put_tile_sizes(
     let c = put_ue(b, out, (widths.len() - 1) as u32);
     let d = put_ue(c, out, (heights.len() - 1) as u32);
     let across = in_ctbs(width, ctu);
-    let e = put_sizes(d, out, across, 11, widths);
+    let e = put_sizes(d, out, across.0, 11, widths);
     let down = in_ctbs(height, ctu);
-    put_sizes(e, out, down, 11, heights)
+    put_sizes(e, out, down.0, 11, heights)
 }

@@ -28,7 +28,9 @@ pub fn put_extension(
     first: usize,
     count: usize,
 ) -> Sink
-    ensures { λ r. ⌜ sinkOver r (now (out .exit)) ≡ play (sinkOver w (now (out .entry))) (extensionSymbols flag (bitList (now (bytes .entry)) first count)) ⌝ }
+    ensures { λ r.
+        ⌜ sinkOver r (now (out .exit))
+        ≡ play (sinkOver w (now (out .entry))) (extensionSymbols flag (bitList (now (bytes .entry)) first count)) ⌝ }
 {
     if flag == 0 {
         return bit_writer::demand(w, count == 0, 26);

@@ -15,6 +15,7 @@ use pps_put_blocks::chroma::put_chroma;
 use pps_put_blocks::deblocking::put_deblocking;
 use pps_put_blocks::subpic_ids::put_subpic_ids;
 use pps_record::VvcPps;
+use pps_record::VvcQpOffsets;
 use pps_record::groups::Head;
 use pps_record::groups::PictureHeaderFlags;
 use pps_record::groups::PictureKind;
@@ -22,7 +23,9 @@ use pps_record::groups::References;
 
 // What stands before the block.
 pub fn put_front(w: Sink, out: &mut [u8], r: VvcPps, subpic_ids: &[u32]) -> Sink
-    ensures { λ x. ⌜ sinkOver x (now (out .exit)) ≡ play (sinkOver w (now (out .entry))) (symbolsFor front (frontFrom r (now («subpic_ids» .entry)))) ⌝ }
+    ensures { λ x.
+        ⌜ sinkOver x (now (out .exit))
+        ≡ play (sinkOver w (now (out .entry))) (symbolsFor front (frontFrom r (now («subpic_ids» .entry)))) ⌝ }
 {
     let head = Head {
         pps_pic_parameter_set_id: r.pps_pic_parameter_set_id,
@@ -52,9 +55,11 @@ pub fn put_back(
     out: &mut [u8],
     partitioned: bool,
     r: VvcPps,
-    triples: [[i32; 3]; 6],
+    triples: [VvcQpOffsets; 6],
 ) -> Sink
-    ensures { λ x. ⌜ sinkOver x (now (out .exit)) ≡ play (sinkOver w (now (out .entry))) (symbolsFor (back partitioned) (backFrom r triples)) ⌝ }
+    ensures { λ x.
+        ⌜ sinkOver x (now (out .exit))
+        ≡ play (sinkOver w (now (out .entry))) (symbolsFor (back partitioned) (backFrom r triples)) ⌝ }
 {
     let references = References {
         pps_cabac_init_present_flag: r.pps_cabac_init_present_flag,

@@ -5,7 +5,6 @@ use mathlib.Core.List.{List}
 use mathlib.Core.Bool.{Bool, true, false}
 use native.Mathlib.Omega.{arith}
 use lib.Dec.{eqb, ltb}
-use lib.IntN.{ℤ}
 use borrow.Author.Tests.{eqb-true, eqb-false, lt-ltb}
 use Rattle.bit_writer.specs.Writing.{Writing}
 use Rattle.partition.specs.Entry.{Position, tileRowHeight, splitCoded, lastSliceOf, nextTile, nextPosition}
@@ -14,21 +13,23 @@ use Rattle.partition.specs.Walk.{rowHeightOf, onward}
 use Rattle.slice_loop.specs.declared.SliceLoopCtx.{SliceLoopCtx}
 use Rattle.syntax.specs.Syntax.{symbolsFor}
 use Rattle.pps_syntax.specs.SliceSyntax.{RectSlice, entryOf, rectSlice, sliceSplit, sliceMove}
-use Rattle.pps_slices.specs.Entries.{LoopOver, Follows}
+use Rattle.pps_tables.specs.declared.RectSliceEntry.{RectSliceEntry}
+use Rattle.slice_loop.specs.Loop.{LoopOver, Follows}
 use Rattle.pps_put_slices.specs.Stop.{playOn, on-refused}
 use Rattle.pps_put_slices.specs.Parts.{sizeInTiles, splitSymbols, lastIn, moveSymbols, size-step, split-step, move-step}
 use Rattle.pps_put_slices.specs.PartsMade.{none-before}
 use Rattle.pps_put_slices.specs.Moved.{Moved}
 
-abbrev pub rectSliceOf : ℕ → ℕ → ℕ → List ℕ → ℕ → ℤ → RectSlice
-rectSliceOf width height splitPresent heights deltaPresent delta =
+-- an entry by its row, with its split heights
+abbrev pub rectSliceOf : RectSliceEntry → List ℕ → RectSlice
+rectSliceOf e heights =
     record {
-      «pps_slice_width_in_tiles_minus1» = width;
-      «pps_slice_height_in_tiles_minus1» = height;
-      splitPresent = splitPresent;
+      «pps_slice_width_in_tiles_minus1» = e .width;
+      «pps_slice_height_in_tiles_minus1» = e .height;
+      splitPresent = e .«split_present»;
       «pps_exp_slice_height_in_ctus_minus1» = heights;
-      deltaPresent = deltaPresent;
-      «pps_tile_idx_delta_val» = delta;
+      deltaPresent = e .«delta_present»;
+      «pps_tile_idx_delta_val» = e .delta;
     }
 
 -- From w to v the entry is put; unless that is refused, slice index and tile are those behind it.

@@ -1,5 +1,5 @@
 -- What holds at each turn of the slice loop over the tables: what is left to be put, behind what was put, makes the whole.
-use Prim.Native.Nat.{ℕ, zero, suc, _+_, _-_, _*_, _≤_, _<_}
+use Prim.Native.Nat.{ℕ, zero, suc, _+_, _-_, _≤_, _<_, min}
 use mathlib.Core.Path.{_≡_, refl, sym, ap, subst, _∙_}
 use mathlib.Core.List.{List, [], _∷_, _++_}
 use mathlib.Core.Bool.{Bool, true, false}
@@ -11,16 +11,17 @@ use borrow.Author.Tests.{lt-ltb, le-ltb, le-leb, lt-leb, leb-true, leb-false}
 use Rattle.codes.specs.Symbols.{Symbol, check, check-true}
 use Rattle.bit_writer.specs.Writing.{Writing, play}
 use Rattle.partition.specs.Entry.{Position, firstPosition}
-use Rattle.partition.specs.Grid.{Grid}
+use Rattle.partition.specs.Grid.{Grid, gridOf}
 use Rattle.partition.specs.Walk.{onward}
 use Rattle.syntax.specs.Elements.{orElse}
 use Rattle.syntax.specs.Lists.{walk}
 use Rattle.syntax.specs.Syntax.{symbolsFor}
 use Rattle.pps_syntax.specs.SliceSyntax.{RectSlice, entryOf, rectSlice, rectSlices}
 use Rattle.pps_syntax.specs.SliceTables.{SliceTables, sliceAt, slicesFrom, splitCount}
+use Rattle.pps_lent.specs.Tables.{splitTables, same-count}
 use Rattle.pps_syntax.specs.WalkAccepted.{turnsLeft, moves-on}
-use Rattle.pps_slices.specs.Entries.{position, Follows}
-use Rattle.pps_slices.specs.Limits.{withinLimits, gridOf, Limited, limits-held}
+use Rattle.slice_loop.specs.Loop.{position, Follows}
+use Rattle.tile_sizes.specs.Limits.{withinLimits, Limited, limits-held}
 use Rattle.pps_put_slices.specs.Stop.{playOn, on-append, on-refused, on-then, passed}
 use Rattle.pps_put_slices.specs.StopSteps.{tested}
 use Rattle.pps_put_slices.specs.EntryPut.{EntryPut}
@@ -64,8 +65,9 @@ module _ (g : Grid) (deltas : Bool) (N : ℕ) (t : SliceTables) (count : ℕ) (w
     pub follows : Follows N slice tile at
     pub few : i ≤ at .slice
     pub within : i ≤ N
-    pub small : from ≤ i * 4294967295
-    pub left : playOn w (turnsLeft g deltas N (N - i) at .symbols (slicesFrom t i from (count - i))) ≡ wholeLoop
+    pub place : ℕ
+    pub placeIs : from ≡ min (length (t .splitHeights)) place
+    pub left : playOn w (turnsLeft g deltas N (N - i) at .symbols (slicesFrom t i place (count - i))) ≡ wholeLoop
 
   pub held-begins : Held w₀ 0 0 0 0
   unfolding rectSlices
@@ -75,7 +77,8 @@ module _ (g : Grid) (deltas : Bool) (N : ℕ) (t : SliceTables) (count : ℕ) (w
         follows = record { sliceIs = omega arith; tileIs = λ l. refl };
         few = omega arith;
         within = omega arith;
-        small = omega arith;
+        place = 0;
+        placeIs = omega arith;
         left = rw (sub-zero N, sub-zero count);
       }
 
@@ -88,13 +91,13 @@ none-left a b = split (leb a b) refl
 
 module _ {g : Grid} {deltas : Bool} {N : ℕ} {t : SliceTables} {count : ℕ} {w₀ w : Writing} {slice tile i from : ℕ} (H : Held g deltas N t count w₀ w slice tile i from) where
   abbrev rest : List RectSlice
-  rest = slicesFrom t i from (count - i)
+  rest = slicesFrom t i (H .place) (count - i)
 
   -- behind slice N all entries are put
   pub held-ends : {v : Writing} → N ≤ slice → v ≡ play w (check (leb count i) 26) → v ≡ wholeLoop g deltas N t count w₀
   held-ends {v} h e =
       let over : ltb (H .at .slice) N ≡ false = le-ltb (H .at .slice) N (omega (arith, H .follows .sliceIs)) in
-      tested w 26 (none-left count i) e ∙ ap (playOn w) (sym (turns-end g deltas N (N - i) (H .at) rest over ∙ turns-over g deltas N (H .at) t i from (count - i))) ∙ H .left
+      tested w 26 (none-left count i) e ∙ ap (playOn w) (sym (turns-end g deltas N (N - i) (H .at) rest over ∙ turns-over g deltas N (H .at) t i (H .place) (count - i))) ∙ H .left
 
   module _ (go : slice < N) where
     on : ltb (H .at .slice) N ≡ true
@@ -120,42 +123,44 @@ module _ {g : Grid} {deltas : Bool} {N : ℕ} {t : SliceTables} {count : ℕ} {w
         let l : H .at .slice < N = omega arith in
         rw (e, H .follows .tileIs l)
 
-    module _ (there : i < count) {v : Writing} {slice′ tile′ : ℕ} (E : EntryPut g deltas N (position slice tile (H .at .precedingHeightMinus1)) (sliceAt t i from) w v slice′ tile′) where
+    module _ (there : i < count) {v : Writing} {slice′ tile′ : ℕ} (E : EntryPut g deltas N (position slice tile (H .at .precedingHeightMinus1)) (sliceAt t i (H .place)) w v slice′ tile′) where
       abbrev next : Position
-      next = onward g deltas (H .at) (entryOf (sliceAt t i from))
+      next = onward g deltas (H .at) (entryOf (sliceAt t i (H .place)))
 
       abbrev later : List Symbol
-      later = turnsLeft g deltas N fewer next .symbols (slicesFrom t (i + 1) (from + splitCount t i) (count - (i + 1)))
+      later = turnsLeft g deltas N fewer next .symbols (slicesFrom t (i + 1) (H .place + splitCount t i) (count - (i + 1)))
 
-      put : v ≡ playOn w (symbolsFor (rectSlice g deltas N (H .at)) (sliceAt t i from))
-      put = E .put ∙ ap (λ (k : Position). playOn w (symbolsFor (rectSlice g deltas N k) (sliceAt t i from))) here
+      put : v ≡ playOn w (symbolsFor (rectSlice g deltas N (H .at)) (sliceAt t i (H .place)))
+      put = E .put ∙ ap (λ (k : Position). playOn w (symbolsFor (rectSlice g deltas N k) (sliceAt t i (H .place)))) here
 
       left-more : playOn v later ≡ wholeLoop g deltas N t count w₀
       left-more =
           ap (λ (x : Writing). playOn x later) put
-          ∙ sym (on-append w (symbolsFor (rectSlice g deltas N (H .at)) (sliceAt t i from)) later)
-          ∙ ap (playOn w) (sym (rw (one-less, from-more t i from count there) (turns-more g deltas N fewer (H .at) (sliceAt t i from) _ on)))
+          ∙ sym (on-append w (symbolsFor (rectSlice g deltas N (H .at)) (sliceAt t i (H .place))) later)
+          ∙ ap (playOn w) (sym (rw (one-less, from-more t i (H .place) count there) (turns-more g deltas N fewer (H .at) (sliceAt t i (H .place)) _ on)))
           ∙ H .left
 
       -- an entry that is refused ends it
       pub held-stops : (v .sink .refused ≡ 0 → ⊥) → v ≡ wholeLoop g deltas N t count w₀
       held-stops h = sym (on-refused v later h) ∙ left-more
 
-      pub held-more : {c : ℕ} → v .sink .refused ≡ 0 → c ≡ splitCount t i → c ≤ 4294967295 → Held g deltas N t count w₀ v slice′ tile′ (i + 1) (from + c)
-      held-more {c} z e l =
-          let moves = moves-on g deltas (H .at) (entryOf (sliceAt t i from)) in
+      pub held-more : {to n : ℕ} → v .sink .refused ≡ 0 → n ≡ splitCount (splitTables (t .entries)) i → to ≡ min (length (t .splitHeights)) (from + n)
+          → Held g deltas N t count w₀ v slice′ tile′ (i + 1) to
+      held-more z e q =
+          let moves = moves-on g deltas (H .at) (entryOf (sliceAt t i (H .place))) in
           record {
             at = next;
-            follows = subst (λ (k : Position). Follows N slice′ tile′ (onward g deltas k (entryOf (sliceAt t i from)))) here (E .follows z);
+            follows = subst (λ (k : Position). Follows N slice′ tile′ (onward g deltas k (entryOf (sliceAt t i (H .place))))) here (E .follows z);
             few = omega (arith, moves, H .few);
             within = omega (arith, H .few, H .follows .sliceIs);
-            small = omega (arith, H .small);
-            left = rw e left-more;
+            place = H .place + splitCount t i;
+            placeIs = omega (arith, H .placeIs, e, same-count t i);
+            left = left-more;
           }
 
-  -- the counts stay below 2^64
-  pub held-small : slice < N → (i < N) × (from ≤ i * 4294967295)
-  held-small go = (omega (arith, H .few, H .follows .sliceIs), H .small)
+  -- the numbers of the loop stay small
+  pub held-small : slice < N → i < N
+  held-small go = omega (arith, H .few, H .follows .sliceIs)
 
 -- ---- the start
 module _ (ws hs : List ℕ) (deltas : Bool) (N : ℕ) (t : SliceTables) (count : ℕ) (w : Writing) {within : Bool} {a : Writing} (e : within ≡ withinLimits (length ws) (length hs)) (h : a ≡ play w (check within 13)) where

@@ -16,7 +16,7 @@ use Rattle.tile_sizes.specs.declared.SlicesInTile.{SlicesInTile}
 use Rattle.tile_sizes.specs.Answers.{slicesInTile}
 use Rattle.tile_sizes.specs.Laws.{slices-number, slices-count}
 use Rattle.syntax.specs.Elements.{isSet}
-use Rattle.pps_slices.specs.EntryMade.{not-past}
+use Rattle.partition.specs.Checks.{not-past}
 use Rattle.pps_put_slices.specs.Stop.{playOn, on-then, on-refused, passed}
 use Rattle.pps_put_slices.specs.StopSteps.{tested}
 use Rattle.pps_put_slices.specs.Sizes.{sizeSymbols, sizesSymbols}

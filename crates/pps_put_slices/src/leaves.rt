@@ -26,14 +26,18 @@ pub fn put_ue(w: Sink, out: &mut [u8], v: u32) -> Sink
 
 // A size minus 1, refused with `number` where it is not below the limit.
 pub fn put_size(w: Sink, out: &mut [u8], limit: u32, number: u8, v: u32) -> Sink
-    ensures { λ r. ⌜ sinkOver r (now (out .exit)) ≡ playOn (sinkOver w (now (out .entry))) (sizeSymbols limit number v) ⌝ }
+    ensures { λ r.
+        ⌜ sinkOver r (now (out .exit))
+        ≡ playOn (sinkOver w (now (out .entry))) (sizeSymbols limit number v) ⌝ }
 {
     let a = bit_writer::demand(w, v < limit, number);
     put_ue(a, out, v)
 }
 
 pub fn put_sizes(w: Sink, out: &mut [u8], limit: u32, number: u8, sizes: &[u32]) -> Sink
-    ensures { λ r. ⌜ sinkOver r (now (out .exit)) ≡ playOn (sinkOver w (now (out .entry))) (sizesSymbols limit number (now (sizes .entry))) ⌝ }
+    ensures { λ r.
+        ⌜ sinkOver r (now (out .exit))
+        ≡ playOn (sinkOver w (now (out .entry))) (sizesSymbols limit number (now (sizes .entry))) ⌝ }
 {
     let mut t = w;
     let mut i = 0;

@@ -1,35 +1,29 @@
-// The rectangular slices of a picture parameter set, written from lent tables (the slice loop of the Rust's write_partition).
+// The rectangular slices of a picture parameter set, written from lent tables (the slice loop of the Rust's
+// write_partition).
 ghost use mathlib.Core.Path.{_≡_};
 ghost use Rattle.bit_writer.specs.Writing.{sinkOver};
-ghost use Rattle.pps_syntax.specs.SliceTables.{sliceTables, slicesFrom};
-ghost use Rattle.pps_slices.specs.Limits.{withinLimits};
+ghost use Rattle.pps_syntax.specs.SliceTables.{slicesFrom};
+ghost use Rattle.pps_tables.specs.Parameters.{slicesBefore};
 ghost use Rattle.pps_put_slices.specs.Stop.{playOn};
 ghost use Rattle.pps_put_slices.specs.Held.{slicesSymbols};
 use bit_writer::Sink;
 use bit_writer::demand;
-use lent::put_slice_at;
+use entry::put_rect_slice;
+use pps_lent::place_after;
 use pps_lent::split_count;
+use pps_tables::ENTRY_LEN;
+use pps_tables::entry_at;
 use slice_loop::SliceIdx;
 use slice_loop::SliceLoopCtx;
 use slice_loop::TileIdx;
-use tile_grid::TileGrid;
+use tile_sizes::within_limits;
 
 mod entry;
 pub mod leaves;
-mod lent;
 mod parts;
 
-fn within_limits(columns: usize, rows: usize) -> bool
-    ensures { λ r. ⌜ r ≡ withinLimits columns rows ⌝ }
-{
-    let most = TileGrid::MAX_TILES as usize;
-    if columns == 0 {
-        return rows == 0;
-    }
-    (columns <= TileGrid::MAX_TILE_COLUMNS as usize) & (rows <= most / columns)
-}
-
-// The slice loop: from tile 0 and slice 0, while the slice index is below N; 26 where `count` is not the number of entries that it takes.
+// The slice loop: from tile 0 and slice 0, while the slice index is below N; 26 where `count` is not the number of
+// entries that it takes.
 pub fn put_rect_slices(
     w: Sink,
     out: &mut [u8],
@@ -38,15 +32,14 @@ pub fn put_rect_slices(
     deltas_coded: bool,
     n: SliceIdx,
     count: u32,
-    widths: &[u32],
-    heights: &[u32],
-    split_present: &[u8],
-    split_counts: &[u32],
-    delta_present: &[u8],
-    deltas: &[i32],
+    entries: &[[u32; ENTRY_LEN]],
     split_heights: &[u32],
 ) -> Sink
-    ensures { λ r. ⌜ sinkOver r (now (out .exit)) ≡ playOn (sinkOver w (now (out .entry))) (slicesSymbols (now («column_widths» .entry)) (now («row_heights» .entry)) «deltas_coded» (n .0) (slicesFrom (sliceTables (now (widths .entry)) (now (heights .entry)) (now («split_present» .entry)) (now («split_counts» .entry)) (now («delta_present» .entry)) (now (deltas .entry)) (now («split_heights» .entry))) 0 0 count)) ⌝ }
+    ensures { λ r.
+        ⌜ sinkOver r (now (out .exit))
+        ≡ playOn (sinkOver w (now (out .entry)))
+        (slicesSymbols (now («column_widths» .entry)) (now («row_heights» .entry)) «deltas_coded» (n .0)
+        (slicesFrom (slicesBefore entries «split_heights») 0 0 count)) ⌝ }
 {
     let within = within_limits(column_widths.len(), row_heights.len());
     let start = demand(w, within, 13);
@@ -68,22 +61,18 @@ pub fn put_rect_slices(
         if i >= count {
             return demand(cur, false, 26);
         }
-        let r = put_slice_at(
+        let e = entry_at(entries, i);
+        let splits = split_count(entries, i);
+        let to = place_after(split_heights.len(), from, splits);
+        let r = put_rect_slice(
             cur,
             out,
             row_heights,
             ctx,
             slice,
             tile,
-            i,
-            from,
-            widths,
-            heights,
-            split_present,
-            split_counts,
-            delta_present,
-            deltas,
-            split_heights,
+            e,
+            &split_heights[from..to],
         );
         cur = r.next;
         if cur.refused != 0 {
@@ -91,7 +80,7 @@ pub fn put_rect_slices(
         }
         slice = r.slice;
         tile = r.tile;
-        from += split_count(split_present, split_counts, i) as usize;
+        from = to;
         i += 1;
     }
     demand(cur, count <= i, 26)

@@ -1,4 +1,5 @@
-// The parts of an entry of the slice loop (H.266 7.3.2.5): width and height, explicit slice heights, and the way to the next tile.
+// The parts of an entry of the slice loop (H.266 7.3.2.5): width and height, explicit slice heights, and the way to
+// the next tile.
 ghost use mathlib.Core.Path.{_≡_};
 ghost use mathlib.Core.Bool.{Bool·beq};
 ghost use mathlib.Core.List.{List};
@@ -58,7 +59,7 @@ fn put_se(w: Sink, out: &mut [u8], v: i32) -> Sink
 }
 
 // A presence flag says whether the part is there.
-pub fn agrees(present: u8, there: bool) -> bool
+pub fn agrees(present: u32, there: bool) -> bool
     ensures { λ r. ⌜ r ≡ Bool·beq (isSet present) there ⌝ }
 {
     if there {
@@ -76,7 +77,11 @@ pub fn put_size_in_tiles(
     width: u32,
     height: u32,
 ) -> Sink
-    ensures { λ r. ⌜ sinkOver r (now (out .exit)) ≡ playOn (sinkOver w (now (out .entry))) (sizeInTiles (ctx .«num_tile_columns») (ctx .«num_tile_rows») (ctx .«delta_present») (tile .0) width height) ⌝ }
+    ensures { λ r.
+        ⌜ sinkOver r (now (out .exit))
+        ≡ playOn (sinkOver w (now (out .entry)))
+        (sizeInTiles (ctx .«num_tile_columns») (ctx .«num_tile_rows») (ctx .«delta_present») (tile .0)
+        width height) ⌝ }
 {
     let across = ctx.columns_left(tile);
     let a = demand(w, width < across, 15);
@@ -97,7 +102,9 @@ pub struct SplitPut {
 // 17 where so many slices from this index on are more than there can be.
 fn last_slice(w: Sink, ctx: SliceLoopCtx, slice: SliceIdx, count: u32) -> SplitPut
     requires { ⌜ (w .refused ≡ 0 → 1 ≤ count) ⌝ }
-    ensures put { λ r. ⌜ ((o : List ℕ) → sinkOver (r .next) o ≡ playOn (sinkOver w o) (check (leb (slice .0 + count - 1) (ctx .«num_slices_minus1» .0)) 17)) ⌝ }
+    ensures put { λ r.
+        ⌜ ((o : List ℕ) → sinkOver (r .next) o
+        ≡ playOn (sinkOver w o) (check (leb (slice .0 + count - 1) (ctx .«num_slices_minus1» .0)) 17)) ⌝ }
     ensures last { λ r. ⌜ (r .next .refused ≡ 0 → r .last .0 ≡ slice .0 + count - 1) ⌝ }
 {
     let past = ctx.too_many_slices(slice, count);
@@ -109,7 +116,8 @@ fn last_slice(w: Sink, ctx: SliceLoopCtx, slice: SliceIdx, count: u32) -> SplitP
     SplitPut { last, next }
 }
 
-// The explicit slice heights, where the entry is one tile of several CTB rows; 26 where the presence flag contradicts, 16, 17.
+// The explicit slice heights, where the entry is one tile of several CTB rows; 26 where the presence flag contradicts,
+// 16, 17.
 pub fn put_split(
     w: Sink,
     out: &mut [u8],
@@ -117,12 +125,16 @@ pub fn put_split(
     slice: SliceIdx,
     row: CtbCount,
     split: bool,
-    present: u8,
+    present: u32,
     heights: &[u32],
 ) -> SplitPut
     requires { ⌜ length (now heights) ≤ 4294967295 ⌝ }
-    ensures put { λ r. ⌜ sinkOver (r .next) (now (out .exit)) ≡ playOn (sinkOver w (now (out .entry))) (splitSymbols split (row .0) (ctx .«num_slices_minus1» .0) (slice .0) present (now (heights .entry))) ⌝ }
-    ensures last { λ r. ⌜ (r .next .refused ≡ 0 → r .last .0 ≡ lastIn (slice .0) split (row .0) (now (heights .entry))) ⌝ }
+    ensures put { λ r.
+        ⌜ sinkOver (r .next) (now (out .exit))
+        ≡ playOn (sinkOver w (now (out .entry)))
+        (splitSymbols split (row .0) (ctx .«num_slices_minus1» .0) (slice .0) present (now (heights .entry))) ⌝ }
+    ensures last { λ r.
+        ⌜ (r .next .refused ≡ 0 → r .last .0 ≡ lastIn (slice .0) split (row .0) (now (heights .entry))) ⌝ }
 {
     let ok = agrees(present, split);
     let a = demand(w, ok, 26);
@@ -171,11 +183,15 @@ pub fn put_move(
     last: SliceIdx,
     width: u32,
     height: u32,
-    present: u8,
+    present: u32,
     delta: i32,
 ) -> SlicePut
     requires { ⌜ ctx .«num_tile_rows» * ctx .«num_tile_columns» ≤ 4294967295 ⌝ }
-    ensures { λ r. ⌜ Moved (ctx .«num_tile_columns») (ctx .«num_tile_rows» * ctx .«num_tile_columns») (ctx .«delta_present») (ctx .«num_slices_minus1» .0) (last .0) (tile .0) width height present delta (sinkOver w (now (out .entry))) (sinkOver (r .next) (now (out .exit))) (r .slice .0) (r .tile .0) ⌝ }
+    ensures { λ r.
+        let tiles = ctx .«num_tile_rows» * ctx .«num_tile_columns» in
+        ⌜ Moved (ctx .«num_tile_columns») tiles (ctx .«delta_present») (ctx .«num_slices_minus1» .0) (last .0) (tile .0)
+        width height present delta
+        (sinkOver w (now (out .entry))) (sinkOver (r .next) (now (out .exit))) (r .slice .0) (r .tile .0) ⌝ }
 {
     let more = ctx.slices_to_come(last);
     let coded = ctx.delta_present & more;

@@ -11,7 +11,7 @@ use Rattle.bit_reader.specs.declared.Cursor.{Cursor}
 use Rattle.bit_reader.specs.Laws.{demanded-true}
 use Rattle.pps_partition.specs.declared.PartitionRead.{PartitionRead}
 use Rattle.pps_partition.specs.NothingLeft.{nothing-left}
-use Rattle.pps_partition.specs.PartitionAnswer.{tablesLong, partitionStart, partitionAnswer, partitionLeft}
+use Rattle.pps_partition.specs.PartitionAnswer.{sizesLong, partitionStart, partitionAnswer, partitionLeft}
 use Rattle.pps_slices.specs.Loop.{slicesLeft, left-none}
 use Rattle.pps_syntax.specs.PartitionSyntax.{PartitionBlock, partition, partitionElement}
 use Rattle.pps_syntax.specs.Record.{partitionRecord}
@@ -68,7 +68,7 @@ module _ (W H : ℕ) (s : List ℕ) (c : Cursor) where
     puts ce re te false e l = absurd (let z : _≡_ {A = ℕ} 0 1 = sym (ap (λ (p : Parsed (List PartitionBlock)). length (p .value)) (of-one false e)) ∙ l in omega arith)
 
     -- where tables are long enough
-    pub block-made : (on : Bool) (n : ℕ) (r : PartitionRead) → on ≡ true → tablesLong (length c₀) (length r₀) n ≡ true
+    pub block-made : (on : Bool) (n : ℕ) (r : PartitionRead) → on ≡ true → sizesLong (length c₀) (length r₀) n ≡ true
         → (r ≡ partitionAnswer (parse (partition W H) s (partitionStart (length c₀) (length r₀) n c)))
         × ((c₁ ≡ sets c₀ 0 (parse (partition W H) s (partitionStart (length c₀) (length r₀) n c) .value .«pps_tile_column_width_minus1»))
         × ((r₁ ≡ sets r₀ 0 (parse (partition W H) s (partitionStart (length c₀) (length r₀) n c) .value .«pps_tile_row_height_minus1»))
@@ -76,7 +76,7 @@ module _ (W H : ℕ) (s : List ℕ) (c : Cursor) where
         → (r ≡ blockAnswer (blocksRead on W H s c)) × (length (blocksRead on W H s c .value) ≡ oneIf on → BlocksPut (blocksRead on W H s c .value) c₀ c₁ r₀ r₁ t₀ t₁)
     unfolding partitionStart
     block-made on n r o long p =
-        let start : partitionStart (length c₀) (length r₀) n c ≡ c = demanded-true (tablesLong (length c₀) (length r₀) n) 5 c long in
+        let start : partitionStart (length c₀) (length r₀) n c ≡ c = demanded-true (sizesLong (length c₀) (length r₀) n) 5 c long in
         let q = rw start at p in
         rw o (q .0 ∙ answer-is, λ l. puts (q .1 .0) (q .1 .1 .0) (q .1 .1 .1) (eqb (one .next .refused) 0) refl l)
 

@@ -1,10 +1,9 @@
 -- Front, partition block, back and end of a set, read one behind the other, are the set that the description reads.
 use Prim.Native.Nat.{ℕ, _/_}
 use mathlib.Core.Path.{_≡_, refl, sym, ap, _∙_}
-use mathlib.Core.List.{List, map}
+use mathlib.Core.List.{List}
 use mathlib.Core.Bool.{Bool, true, false, cond}
 use lib.Dec.{eqb}
-use lib.IntN.{ℤ}
 use lib.ListN.{length}
 use lib.Seq.{sets}
 use Rattle.bit_reader.specs.declared.Cursor.{Cursor}
@@ -20,7 +19,7 @@ use Rattle.pps_syntax.specs.Pps.{Front, Back, Pps, front, back, pps, partitione
 use Rattle.pps_syntax.specs.Rbsp.{ReadSet, accepted, refused, extensionFor, behindExtension, answered, readRbsp}
 use Rattle.pps_syntax.specs.ReadAccepted.{read-partition-accepted, read-unpartitioned}
 use Rattle.pps_syntax.specs.ReadWhole.{read-whole}
-use Rattle.pps_syntax.specs.Record.{rowOf, partitionRecord, recordOf}
+use Rattle.pps_syntax.specs.Record.{partitionRecord, recordOf}
 use Rattle.pps_syntax.specs.SliceTables.{SliceTables}
 use Rattle.syntax.specs.Element.{Parsed, parsed}
 use Rattle.syntax.specs.Elements.{oneIf}
@@ -29,7 +28,8 @@ use Rattle.syntax.specs.Syntax.{parse}
 use Rattle.pps_answer.specs.declared.PpsRead.{PpsRead}
 use Rattle.pps_answer.specs.Answers.{firstBit, recordFrom, answerOf, answerFrom}
 use Rattle.pps_read.specs.Block.{blocksRead, blockAnswer, BlocksPut}
-use Rattle.pps_answer.specs.Lending.{lent, putLists}
+use Rattle.pps_syntax.specs.FromRecord.{lent}
+use Rattle.pps_answer.specs.Lending.{putLists}
 
 -- a set that was read has one block or none
 blocks-counted : (rbsp : List ℕ) (a : ReadSet) → readRbsp rbsp ≡ accepted a → length (a .set .partition) ≡ oneIf (partitioned (a .set .front .kind))
@@ -133,18 +133,16 @@ module _ (s : List ℕ) where
         ∙ ap (λ (x : BackRead). answerFrom (frontOf frontRead) (partitionRecord (length (blocks .value)) (blocks .value)) x e) back-is
         ∙ answer-same e whole
 
-    -- and the tables
-    pub lists-made : (ids₀ ids₁ c₀ c₁ r₀ r₁ : List ℕ) (t₀ t₁ : SliceTables) (l₀ l₁ : List (List ℤ))
-        → ids₁ ≡ sets ids₀ 0 (frontRead .value .subpicIds .«pps_subpic_id»)
-        → (length (blocksRead (eqb (f .kind .«pps_no_pic_partition_flag») 0) (f .head .«pps_pic_width_in_luma_samples») (f .head .«pps_pic_height_in_luma_samples») s (f .next) .value) ≡ oneIf (eqb (f .kind .«pps_no_pic_partition_flag») 0)
-        → BlocksPut (blocksRead (eqb (f .kind .«pps_no_pic_partition_flag») 0) (f .head .«pps_pic_width_in_luma_samples») (f .head .«pps_pic_height_in_luma_samples») s (f .next) .value) c₀ c₁ r₀ r₁ t₀ t₁)
-        → l₁ ≡ sets l₀ 0 (map rowOf (parse (back (eqb (f .kind .«pps_no_pic_partition_flag») 0)) s (b .next) .value .chroma .list))
-        → (a : ReadSet) → readRbsp s ≡ accepted a → lent ids₁ c₁ r₁ t₁ l₁ ≡ putLists (a .set) (lent ids₀ c₀ r₀ t₀ l₀)
-    unfolding frontOf putLists
-    lists-made ids₀ ids₁ c₀ c₁ r₀ r₁ t₀ t₁ l₀ l₁ I P T a z =
-        let is : a .set ≡ setRead = read-whole s a z .set-is ∙ sym (ap (λ (p : Parsed Pps). p .value) set-is) in
-        let counted : length (blocks .value) ≡ oneIf parted = rw is at (blocks-counted s a z) in
-        let Q = rw F at P in
-        let put = Q counted in
-        let triples : l₁ ≡ sets l₀ 0 (map rowOf (backRead .value .chroma .list)) = T ∙ ap (λ (x : Parsed Back). sets l₀ 0 (map rowOf (x .value .chroma .list))) back-same in
-        rw is (rw (I, put .columns, put .rows, put .slices, triples))
+  -- ---- and the tables
+  pub lists-made : (f : FrontRead) → f ≡ frontOf frontRead → (ids₀ ids₁ c₀ c₁ r₀ r₁ : List ℕ) (t₀ t₁ : SliceTables)
+      → ids₁ ≡ sets ids₀ 0 (frontRead .value .subpicIds .«pps_subpic_id»)
+      → (length (blocksRead (eqb (f .kind .«pps_no_pic_partition_flag») 0) (f .head .«pps_pic_width_in_luma_samples») (f .head .«pps_pic_height_in_luma_samples») s (f .next) .value) ≡ oneIf (eqb (f .kind .«pps_no_pic_partition_flag») 0)
+      → BlocksPut (blocksRead (eqb (f .kind .«pps_no_pic_partition_flag») 0) (f .head .«pps_pic_width_in_luma_samples») (f .head .«pps_pic_height_in_luma_samples») s (f .next) .value) c₀ c₁ r₀ r₁ t₀ t₁)
+      → (a : ReadSet) → readRbsp s ≡ accepted a → lent ids₁ c₁ r₁ t₁ ≡ putLists (a .set) (lent ids₀ c₀ r₀ t₀)
+  unfolding frontOf putLists
+  lists-made f F ids₀ ids₁ c₀ c₁ r₀ r₁ t₀ t₁ I P a z =
+      let is : a .set ≡ setRead = read-whole s a z .set-is ∙ sym (ap (λ (p : Parsed Pps). p .value) set-is) in
+      let counted : length (blocks .value) ≡ oneIf parted = rw is at (blocks-counted s a z) in
+      let Q = rw F at P in
+      let put = Q counted in
+      rw is (rw (I, put .columns, put .rows, put .slices))

@@ -2,13 +2,13 @@
 ghost use mathlib.Core.Bool.{true};
 ghost use mathlib.Core.Path.{_≡_};
 ghost use lib.ListN.{length};
-ghost use Rattle.pps_partition.specs.PartitionAnswer.{tablesLong};
+ghost use Rattle.pps_partition.specs.PartitionAnswer.{sizesLong};
 ghost use Rattle.pps_syntax.specs.Rbsp.{ReadSet, accepted, readRbsp};
-ghost use Rattle.pps_syntax.specs.SliceTables.{sliceTables};
+ghost use Rattle.pps_tables.specs.Parameters.{slicesBefore, slicesAfter, before, after};
 ghost use Rattle.syntax.specs.Elements.{oneIf};
 ghost use Rattle.pps_answer.specs.Answers.{answerOf};
 ghost use Rattle.pps_read.specs.Block.{blocksRead, blockAnswer, BlocksPut};
-ghost use Rattle.pps_answer.specs.Lending.{lent, putLists};
+ghost use Rattle.pps_answer.specs.Lending.{putLists};
 use bit_reader::Cursor;
 use pps_answer::PpsRead;
 use pps_answer::answer_of;
@@ -18,6 +18,7 @@ use pps_parts::end::read_end;
 use pps_parts::read_back;
 use pps_parts::read_front;
 use pps_record::VvcPpsPartition;
+use pps_tables::ENTRY_LEN;
 
 // The partition block where there is one, zeros where there is none.
 fn read_block(
@@ -27,18 +28,19 @@ fn read_block(
     height: u32,
     tile_column_widths: &mut [u32],
     tile_row_heights: &mut [u32],
-    slice_widths: &mut [u32],
-    slice_heights: &mut [u32],
-    split_present: &mut [u8],
-    split_counts: &mut [u32],
-    delta_present: &mut [u8],
-    deltas: &mut [i32],
+    entries: &mut [[u32; ENTRY_LEN]],
     split_heights: &mut [u32],
     c: Cursor,
 ) -> PartitionRead
-    requires { ⌜ tablesLong (length (now «tile_column_widths»)) (length (now «tile_row_heights»)) (length (now «split_heights»)) ≡ true ⌝ }
+    requires { ⌜ sizesLong (length (now «tile_column_widths»)) (length (now «tile_row_heights»))
+        (length (now «split_heights»)) ≡ true ⌝ }
     ensures answer { λ r. ⌜ r ≡ blockAnswer (blocksRead partitioned width height (now (s .entry)) c) ⌝ }
-    ensures tables { λ r. ⌜ (length (blocksRead partitioned width height (now (s .entry)) c .value) ≡ oneIf partitioned → BlocksPut (blocksRead partitioned width height (now (s .entry)) c .value) (now («tile_column_widths» .entry)) (now («tile_column_widths» .exit)) (now («tile_row_heights» .entry)) (now («tile_row_heights» .exit)) (sliceTables (now («slice_widths» .entry)) (now («slice_heights» .entry)) (now («split_present» .entry)) (now («split_counts» .entry)) (now («delta_present» .entry)) (now (deltas .entry)) (now («split_heights» .entry))) (sliceTables (now («slice_widths» .exit)) (now («slice_heights» .exit)) (now («split_present» .exit)) (now («split_counts» .exit)) (now («delta_present» .exit)) (now (deltas .exit)) (now («split_heights» .exit)))) ⌝ }
+    ensures tables { λ r.
+        ⌜ (let blocks = blocksRead partitioned width height (now (s .entry)) c .value in
+        length blocks ≡ oneIf partitioned
+        → BlocksPut blocks (now («tile_column_widths» .entry)) (now («tile_column_widths» .exit))
+        (now («tile_row_heights» .entry)) (now («tile_row_heights» .exit))
+        (slicesBefore entries «split_heights») (slicesAfter entries «split_heights»)) ⌝ }
 {
     if partitioned {
         return read_partition(
@@ -47,12 +49,7 @@ fn read_block(
             height,
             tile_column_widths,
             tile_row_heights,
-            slice_widths,
-            slice_heights,
-            split_present,
-            split_counts,
-            delta_present,
-            deltas,
+            entries,
             split_heights,
             c,
         );
@@ -69,18 +66,16 @@ pub fn read_rbsp(
     subpic_ids: &mut [u32],
     tile_column_widths: &mut [u32],
     tile_row_heights: &mut [u32],
-    slice_widths: &mut [u32],
-    slice_heights: &mut [u32],
-    split_present: &mut [u8],
-    split_counts: &mut [u32],
-    delta_present: &mut [u8],
-    deltas: &mut [i32],
+    entries: &mut [[u32; ENTRY_LEN]],
     split_heights: &mut [u32],
-    triples: &mut [[i32; 3]; 6],
 ) -> PpsRead
-    requires { ⌜ tablesLong (length (now «tile_column_widths»)) (length (now «tile_row_heights»)) (length (now «split_heights»)) ≡ true ⌝ }
+    requires { ⌜ sizesLong (length (now «tile_column_widths»)) (length (now «tile_row_heights»))
+        (length (now «split_heights»)) ≡ true ⌝ }
     ensures answer { λ r. ⌜ r ≡ answerOf (readRbsp (now (s .entry))) ⌝ }
-    ensures tables { λ r. ⌜ ((a : ReadSet) → readRbsp (now (s .entry)) ≡ accepted a → lent (now («subpic_ids» .exit)) (now («tile_column_widths» .exit)) (now («tile_row_heights» .exit)) (sliceTables (now («slice_widths» .exit)) (now («slice_heights» .exit)) (now («split_present» .exit)) (now («split_counts» .exit)) (now («delta_present» .exit)) (now (deltas .exit)) (now («split_heights» .exit))) (now (triples .exit)) ≡ putLists (a .set) (lent (now («subpic_ids» .entry)) (now («tile_column_widths» .entry)) (now («tile_row_heights» .entry)) (sliceTables (now («slice_widths» .entry)) (now («slice_heights» .entry)) (now («split_present» .entry)) (now («split_counts» .entry)) (now («delta_present» .entry)) (now (deltas .entry)) (now («split_heights» .entry))) (now (triples .entry)))) ⌝ }
+    ensures tables { λ r.
+        ⌜ ((a : ReadSet) → readRbsp (now (s .entry)) ≡ accepted a
+        → after «subpic_ids» «tile_column_widths» «tile_row_heights» entries «split_heights»
+        ≡ putLists (a .set) (before «subpic_ids» «tile_column_widths» «tile_row_heights» entries «split_heights»)) ⌝ }
 {
     let start = Cursor { at: 0, refused: 0 };
     let front = read_front(s, subpic_ids, start);
@@ -94,17 +89,12 @@ pub fn read_rbsp(
         head.pps_pic_height_in_luma_samples,
         tile_column_widths,
         tile_row_heights,
-        slice_widths,
-        slice_heights,
-        split_present,
-        split_counts,
-        delta_present,
-        deltas,
+        entries,
         split_heights,
         front.next,
     );
     let partition = block.value;
-    let back = read_back(s, partitioned, triples, block.next);
+    let back = read_back(s, partitioned, block.next);
     let flags = back.picture_header;
     let end = read_end(s, flags.pps_extension_flag, back.next);
     answer_of(front, partition, back, end)

@@ -1,13 +1,19 @@
 // The stated lengths of the tables that a caller lends (docs/BEHAVIOUR.md). A table may be longer; a shorter one is refused with 5.
+use tile_sizes::MAX_NUM_SLICES_MINUS1;
+use tile_sizes::MAX_SLICES;
+use tile_sizes::MAX_TILE_COLUMNS;
+use tile_sizes::MAX_TILES;
 
-pub const SUBPIC_IDS: usize = 1000;
+// The most that pps_num_subpics_minus1 can be.
+pub const MAX_NUM_SUBPICS_MINUS1: u32 = 999;
 
-pub const TILE_COLUMN_WIDTHS: usize = 30;
+pub const SUBPIC_IDS: usize = MAX_NUM_SUBPICS_MINUS1 as usize + 1;
 
-pub const TILE_ROW_HEIGHTS: usize = 990;
+pub const TILE_COLUMN_WIDTHS: usize = MAX_TILE_COLUMNS as usize;
 
-// Each of the tables of the slice entries: widths, heights, split presence, split counts, delta presence, deltas.
-pub const RECT_SLICES: usize = 999;
+pub const TILE_ROW_HEIGHTS: usize = MAX_TILES as usize;
+
+pub const RECT_SLICES: usize = MAX_NUM_SLICES_MINUS1 as usize;
 
 // The split heights of all entries, one entry's behind the other's.
-pub const SPLIT_HEIGHTS: usize = 1000;
+pub const SPLIT_HEIGHTS: usize = MAX_SLICES as usize;

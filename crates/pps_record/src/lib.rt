@@ -1,10 +1,9 @@
 // The picture parameter set as a record (the structs of the Rust's src/h266/pps.rs), for C and Rust to hold. An Option is a block with a
 // presence flag, a Vec a count beside a lent table. A flag is 0 or 1 where reading gives it; writing takes all but 0 for 1.
 ghost use mathlib.Core.Path.{_≡_};
-ghost use Prim.Native.Nat.{min};
-ghost use Rattle.partition.specs.Partition.{inCtbs};
 ghost use Rattle.pps_record.specs.Absent.{noPartition};
 ghost use Rattle.pps_record.specs.Ctbs.{ctbsOf};
+use tile_sizes::in_ctbs;
 
 pub mod groups;
 pub mod lengths;
@@ -53,6 +52,10 @@ pub struct VvcPpsPartition {
     pub num_rect_slices: u32,
     pub pps_loop_filter_across_slices_enabled_flag: u8,
 }
+
+// A triple of the list: cb, cr, joint.
+#[repr(C)]
+pub struct VvcQpOffsets(pub [i32; 3]);
 
 // The triples of the list are passed beside the record; the joint flag says whether their third offsets are coded.
 #[repr(C)]
@@ -125,46 +128,19 @@ pub enum Ctbs {
     Refused(u8),
 }
 
-fn wide(x: u32) -> u64
-    ensures { λ r. ⌜ r ≡ x ⌝ }
-{
-    x as u64
-}
-
-// A length in luma samples, in blocks of 2^(5 + the CTU size field), rounded up. A field over 5 counts as 5.
-pub fn in_ctbs(samples: u32, log2_ctu_size_minus5: u8) -> u32
-    ensures { λ r. ⌜ r ≡ inCtbs samples (min «log2_ctu_size_minus5» 5) ⌝ }
-{
-    let n = wide(samples);
-    if log2_ctu_size_minus5 == 0 {
-        return ((n + 31) / 32) as u32;
-    }
-    if log2_ctu_size_minus5 == 1 {
-        return ((n + 63) / 64) as u32;
-    }
-    if log2_ctu_size_minus5 == 2 {
-        return ((n + 127) / 128) as u32;
-    }
-    if log2_ctu_size_minus5 == 3 {
-        return ((n + 255) / 256) as u32;
-    }
-    if log2_ctu_size_minus5 == 4 {
-        return ((n + 511) / 512) as u32;
-    }
-    ((n + 1023) / 1024) as u32
-}
-
 // A length of a picture in CTBs: 9 where a partition has a CTU size field over 2; blocks of 1,024 samples without a partition.
 fn pic_ctbs(samples: u32, partition_present: u8, log2_ctu_size_minus5: u8) -> Ctbs
     ensures { λ r. ⌜ r ≡ ctbsOf samples «partition_present» «log2_ctu_size_minus5» ⌝ }
 {
     if partition_present == 0 {
-        return Ctbs::Count(in_ctbs(samples, 5));
+        let blocks = in_ctbs(samples, 5);
+        return Ctbs::Count(blocks.0);
     }
     if log2_ctu_size_minus5 > 2 {
         return Ctbs::Refused(9);
     }
-    Ctbs::Count(in_ctbs(samples, log2_ctu_size_minus5))
+    let ctbs = in_ctbs(samples, log2_ctu_size_minus5);
+    Ctbs::Count(ctbs.0)
 }
 
 impl VvcPpsPartition {

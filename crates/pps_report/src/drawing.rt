@@ -5,7 +5,7 @@ use crate::scale::Frame;
 use crate::scale::frame_of;
 use crate::slices;
 use crate::tiles;
-use pps_record::in_ctbs;
+use tile_sizes::in_ctbs;
 
 fn draw_partitioned(report: Report, frame: Frame) {
     let grid = report.grid;
@@ -46,9 +46,11 @@ pub fn draw(report: Report) {
     }
     let plan = report.plan;
     let cover = report.cover;
+    let ctbs_across = in_ctbs(report.width, report.log2_ctu_size_minus5);
+    let ctbs_down = in_ctbs(report.height, report.log2_ctu_size_minus5);
     let frame = frame_of(
-        in_ctbs(report.width, report.log2_ctu_size_minus5),
-        in_ctbs(report.height, report.log2_ctu_size_minus5),
+        ctbs_across.0,
+        ctbs_down.0,
         grid.num_tile_columns,
         grid.num_tile_rows,
         plan.num_slices,

@@ -1,9 +1,18 @@
 // What is told of a unit: what reading answers, with the grid, the plan and the cover.
 ghost use mathlib.Core.Path.{_≡_};
 ghost use Rattle.pps_report.specs.Told.{refusalTold};
+use crate::COLUMNS;
+use crate::ROWS;
+use crate::SLICES;
 use pps_answer::AcceptedPps;
-use pps_answer::PpsRead;
+use pps_answer::PpsAnswer;
 use pps_read::parse_pps;
+use pps_record::lengths::RECT_SLICES;
+use pps_record::lengths::SPLIT_HEIGHTS;
+use pps_record::lengths::SUBPIC_IDS;
+use pps_record::lengths::TILE_COLUMN_WIDTHS;
+use pps_record::lengths::TILE_ROW_HEIGHTS;
+use pps_tables::ENTRY_LEN;
 use tile_grid::CoverAnswer;
 use tile_grid::PlanAnswer;
 use tile_grid::TileGrid;
@@ -26,16 +35,16 @@ fn refused_report(number: u8) -> Report
     let grid = TileGrid {
         num_tile_columns: 0,
         num_tile_rows: 0,
-        column_widths: [0; 30],
-        row_heights: [0; 990],
+        column_widths: [0; COLUMNS],
+        row_heights: [0; ROWS],
     };
     let plan = PlanAnswer {
         refused: number,
         num_slices: 0,
-        left: [0; 1000],
-        top: [0; 1000],
-        width: [0; 1000],
-        height: [0; 1000],
+        left: [0; SLICES],
+        top: [0; SLICES],
+        width: [0; SLICES],
+        height: [0; SLICES],
     };
     Report {
         refused: number,
@@ -52,16 +61,11 @@ fn refused_report(number: u8) -> Report
 // The three questions of a record that was read; none refuses what reading gave (`pps_asked`).
 fn accepted_report(
     a: AcceptedPps,
-    subpic_ids: &[u32; 1000],
-    tile_column_widths: &[u32; 30],
-    tile_row_heights: &[u32; 990],
-    slice_widths: &[u32; 999],
-    slice_heights: &[u32; 999],
-    split_present: &[u8; 999],
-    split_counts: &[u32; 999],
-    delta_present: &[u8; 999],
-    deltas: &[i32; 999],
-    split_heights: &[u32; 1000],
+    subpic_ids: &[u32],
+    tile_column_widths: &[u32],
+    tile_row_heights: &[u32],
+    entries: &[[u32; ENTRY_LEN]],
+    split_heights: &[u32],
 ) -> Report
     ensures { λ r. ⌜ r .refused ≡ 0 ⌝ }
 {
@@ -71,38 +75,23 @@ fn accepted_report(
         subpic_ids,
         tile_column_widths,
         tile_row_heights,
-        slice_widths,
-        slice_heights,
-        split_present,
-        split_counts,
-        delta_present,
-        deltas,
+        entries,
         split_heights,
     );
-    let plan = TileGrid::plan(
+    let plan = TileGrid::slice_plan(
         pps,
         subpic_ids,
         tile_column_widths,
         tile_row_heights,
-        slice_widths,
-        slice_heights,
-        split_present,
-        split_counts,
-        delta_present,
-        deltas,
+        entries,
         split_heights,
     );
-    let cover = TileGrid::cover(
+    let cover = TileGrid::slice_cover(
         pps,
         subpic_ids,
         tile_column_widths,
         tile_row_heights,
-        slice_widths,
-        slice_heights,
-        split_present,
-        split_counts,
-        delta_present,
-        deltas,
+        entries,
         split_heights,
     );
     let grid = answer.grid;
@@ -124,45 +113,29 @@ pub fn report_of(nal: &[u8]) -> Report
     ensures { λ r. ⌜ r .refused ≡ refusalTold (now (nal .entry)) ⌝ }
 {
     let mut work = io::large_buffer();
-    let mut subpic_ids = [0u32; 1000];
-    let mut tile_column_widths = [0u32; 30];
-    let mut tile_row_heights = [0u32; 990];
-    let mut slice_widths = [0u32; 999];
-    let mut slice_heights = [0u32; 999];
-    let mut split_present = [0u8; 999];
-    let mut split_counts = [0u32; 999];
-    let mut delta_present = [0u8; 999];
-    let mut deltas = [0i32; 999];
-    let mut split_heights = [0u32; 1000];
-    let mut triples = [[0i32; 3]; 6];
+    let mut subpic_ids = [0u32; SUBPIC_IDS];
+    let mut tile_column_widths = [0u32; TILE_COLUMN_WIDTHS];
+    let mut tile_row_heights = [0u32; TILE_ROW_HEIGHTS];
+    let mut entries = [[0u32; ENTRY_LEN]; RECT_SLICES];
+    let mut split_heights = [0u32; SPLIT_HEIGHTS];
     let read = parse_pps(
         nal,
         &mut work,
         &mut subpic_ids,
         &mut tile_column_widths,
         &mut tile_row_heights,
-        &mut slice_widths,
-        &mut slice_heights,
-        &mut split_present,
-        &mut split_counts,
-        &mut delta_present,
-        &mut deltas,
+        &mut entries,
         &mut split_heights,
-        &mut triples,
     );
-    match read {
-        PpsRead::Refused(number) => refused_report(number),
-        PpsRead::Accepted(a) => accepted_report(
+    let answer = read.answer;
+    match answer {
+        PpsAnswer::Refused(number) => refused_report(number),
+        PpsAnswer::Accepted(a) => accepted_report(
             a,
             &subpic_ids,
             &tile_column_widths,
             &tile_row_heights,
-            &slice_widths,
-            &slice_heights,
-            &split_present,
-            &split_counts,
-            &delta_present,
-            &deltas,
+            &entries,
             &split_heights,
         ),
     }

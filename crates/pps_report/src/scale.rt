@@ -72,8 +72,8 @@ fn over(a: u32, b: u32) -> u32 {
     a / b
 }
 
-// Blocks are drawn square, unless the picture would then be lower than an eighth of its width or higher than one and a half of it. The more
-// tiles or slices stand side by side, the thinner are their borders.
+// Blocks are drawn square, unless the picture would then be lower than an eighth of its width or higher than one and a
+// half of it. The more tiles or slices stand side by side, the thinner are their borders.
 pub fn frame_of(ctbs_across: u32, ctbs_down: u32, columns: u32, rows: u32, slices: u32) -> Frame {
     let square = scaled(ctbs_down, ctbs_across, WIDTH);
     let side_by_side = most(most(columns, rows), over(slices, columns));

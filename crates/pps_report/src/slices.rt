@@ -1,4 +1,5 @@
 // The slices, and how often they hold a block.
+use crate::SLICES;
 use crate::marks::attribute;
 use crate::marks::box_of;
 use crate::marks::inset;
@@ -7,6 +8,7 @@ use crate::marks::rect;
 use crate::out::number;
 use crate::out::put;
 use crate::scale::Frame;
+use tile_sizes::MAX_SLICES;
 
 // How many slices hold a block, as far as it matters.
 pub enum Held {
@@ -26,10 +28,10 @@ fn colour(i: u32) {
 fn draw_slice(
     i: u32,
     count: u32,
-    left: &[u32; 1000],
-    top: &[u32; 1000],
-    width: &[u32; 1000],
-    height: &[u32; 1000],
+    left: &[u32; SLICES],
+    top: &[u32; SLICES],
+    width: &[u32; SLICES],
+    height: &[u32; SLICES],
     numbered: bool,
     frame: Frame,
 ) {
@@ -37,7 +39,7 @@ fn draw_slice(
         return;
     }
     let k = i as usize;
-    if k >= 1000 {
+    if k >= SLICES {
         return;
     }
     let b = box_of(left[k], top[k], width[k], height[k], frame);
@@ -53,15 +55,15 @@ fn draw_slice(
 
 pub fn draw_slices(
     count: u32,
-    left: &[u32; 1000],
-    top: &[u32; 1000],
-    width: &[u32; 1000],
-    height: &[u32; 1000],
+    left: &[u32; SLICES],
+    top: &[u32; SLICES],
+    width: &[u32; SLICES],
+    height: &[u32; SLICES],
     numbered: bool,
     frame: Frame,
 ) {
     let mut i = 0;
-    while i < 1000 {
+    while i < MAX_SLICES {
         draw_slice(i, count, left, top, width, height, numbered, frame);
         i += 1;
     }
@@ -81,16 +83,16 @@ fn with_slice(
     x: u32,
     y: u32,
     count: u32,
-    left: &[u32; 1000],
-    top: &[u32; 1000],
-    width: &[u32; 1000],
-    height: &[u32; 1000],
+    left: &[u32; SLICES],
+    top: &[u32; SLICES],
+    width: &[u32; SLICES],
+    height: &[u32; SLICES],
 ) -> Held {
     if i >= count {
         return held;
     }
     let k = i as usize;
-    if k >= 1000 {
+    if k >= SLICES {
         return held;
     }
     if !(within(left[k], width[k], x) & within(top[k], height[k], y)) {
@@ -108,14 +110,14 @@ pub fn held_at(
     x: u32,
     y: u32,
     count: u32,
-    left: &[u32; 1000],
-    top: &[u32; 1000],
-    width: &[u32; 1000],
-    height: &[u32; 1000],
+    left: &[u32; SLICES],
+    top: &[u32; SLICES],
+    width: &[u32; SLICES],
+    height: &[u32; SLICES],
 ) -> Held {
     let mut held = Held::Never;
     let mut i = 0;
-    while i < 1000 {
+    while i < MAX_SLICES {
         held = with_slice(held, i, x, y, count, left, top, width, height);
         i += 1;
     }

@@ -1,4 +1,7 @@
 // The tiles: borders, numbers, and whether they lie in no slice or in several.
+use crate::COLUMNS;
+use crate::ROWS;
+use crate::SLICES;
 use crate::marks::Box;
 use crate::marks::attribute;
 use crate::marks::box_of;
@@ -10,6 +13,8 @@ use crate::scale::plus;
 use crate::scale::times;
 use crate::slices::Held;
 use crate::slices::held_at;
+use tile_sizes::MAX_TILE_COLUMNS;
+use tile_sizes::MAX_TILES;
 
 // A mark where a tile lies in no slice or in several.
 fn mark(held: Held, b: Box) {
@@ -34,8 +39,9 @@ fn border(t: u32, b: Box, frame: Frame) {
     number_in_corner(t, b);
 }
 
-// The tile in column i of the row that begins with tile `first`, from x on; where the next one begins. A slice holds a tile whole or is cut
-// from it with others that hold the rest, so that as many slices hold the first block as any other.
+// The tile in column i of the row that begins with tile `first`, from x on; where the next one begins. A slice holds a
+// tile whole or is cut from it with others that hold the rest, so that as many slices hold the first block as any
+// other.
 fn draw_tile(
     i: u32,
     first: u32,
@@ -43,19 +49,19 @@ fn draw_tile(
     y: u32,
     row_height: u32,
     columns: u32,
-    column_widths: &[u32; 30],
+    column_widths: &[u32; COLUMNS],
     count: u32,
-    left: &[u32; 1000],
-    top: &[u32; 1000],
-    width: &[u32; 1000],
-    height: &[u32; 1000],
+    left: &[u32; SLICES],
+    top: &[u32; SLICES],
+    width: &[u32; SLICES],
+    height: &[u32; SLICES],
     frame: Frame,
 ) -> u32 {
     if i >= columns {
         return x;
     }
     let k = i as usize;
-    if k >= 30 {
+    if k >= COLUMNS {
         return x;
     }
     let column_width = column_widths[k];
@@ -72,21 +78,21 @@ fn draw_row(
     i: u32,
     y: u32,
     rows: u32,
-    row_heights: &[u32; 990],
+    row_heights: &[u32; ROWS],
     columns: u32,
-    column_widths: &[u32; 30],
+    column_widths: &[u32; COLUMNS],
     count: u32,
-    left: &[u32; 1000],
-    top: &[u32; 1000],
-    width: &[u32; 1000],
-    height: &[u32; 1000],
+    left: &[u32; SLICES],
+    top: &[u32; SLICES],
+    width: &[u32; SLICES],
+    height: &[u32; SLICES],
     frame: Frame,
 ) -> u32 {
     if i >= rows {
         return y;
     }
     let k = i as usize;
-    if k >= 990 {
+    if k >= ROWS {
         return y;
     }
     let row_height = row_heights[k];
@@ -111,17 +117,17 @@ fn draw_columns(
     y: u32,
     row_height: u32,
     columns: u32,
-    column_widths: &[u32; 30],
+    column_widths: &[u32; COLUMNS],
     count: u32,
-    left: &[u32; 1000],
-    top: &[u32; 1000],
-    width: &[u32; 1000],
-    height: &[u32; 1000],
+    left: &[u32; SLICES],
+    top: &[u32; SLICES],
+    width: &[u32; SLICES],
+    height: &[u32; SLICES],
     frame: Frame,
 ) {
     let mut x = 0;
     let mut i = 0;
-    while i < 30 {
+    while i < MAX_TILE_COLUMNS {
         x = draw_tile(
             i,
             first,
@@ -143,19 +149,19 @@ fn draw_columns(
 
 pub fn draw_tiles(
     rows: u32,
-    row_heights: &[u32; 990],
+    row_heights: &[u32; ROWS],
     columns: u32,
-    column_widths: &[u32; 30],
+    column_widths: &[u32; COLUMNS],
     count: u32,
-    left: &[u32; 1000],
-    top: &[u32; 1000],
-    width: &[u32; 1000],
-    height: &[u32; 1000],
+    left: &[u32; SLICES],
+    top: &[u32; SLICES],
+    width: &[u32; SLICES],
+    height: &[u32; SLICES],
     frame: Frame,
 ) {
     let mut y = 0;
     let mut i = 0;
-    while i < 990 {
+    while i < MAX_TILES {
         y = draw_row(
             i,
             y,

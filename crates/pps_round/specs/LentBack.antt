@@ -5,23 +5,25 @@ use mathlib.Core.List.{List, [], _∷_, _++_, map}
 use mathlib.Core.Bool.{Bool, true, false, not, _||_}
 use native.Mathlib.Omega.{arith}
 use lib.Dec.{eqb, leb}
-use lib.IntN.{pos}
 use lib.ListN.{length, getD, drop, length-append, List·getD-append}
 use lib.Seq.{sets, length-sets}
 use borrow.Author.Tests.{le-leb, eqb-true}
 use Rattle.codes.specs.Bytes.{bitCount, bitAt, bit-in, bitList}
 use Rattle.codes.specs.Symbols.{refusalIn}
+use Rattle.partition.specs.Grid.{maxTileColumns, maxTiles, maxSlicesMinus1, maxSlices}
 use Rattle.pps_answer.specs.Lending.{columnsOf, rowsOf, slicesOf, zeros, clearedSlices, cleared, filled}
+use Rattle.pps_tables.specs.Rows.{noEntry}
 use Rattle.pps_round.specs.SetBack.{Long, room-of, entries-counted}
 use Rattle.pps_round.specs.SlicesBack.{AllCounted, put-entries, total-back}
-use Rattle.pps_syntax.specs.FromRecord.{Lent, slicesLong, tablesLong, countsFit, extensionFrom, extensionLent}
+use Rattle.pps_syntax.specs.FromRecord.{Lent, lengthsFit, tablesLong, countsFit, extensionFrom, extensionLent}
 use Rattle.pps_syntax.specs.ListsFit.{BlockFits, ListsFit}
 use Rattle.pps_syntax.specs.PartitionSyntax.{PartitionBlock, partition, partitionElement}
 use Rattle.pps_syntax.specs.Pps.{Pps, pps, partitioned, picWidth, picHeight}
 use Rattle.pps_syntax.specs.Rbsp.{ReadSet}
 use Rattle.pps_syntax.specs.ReadWhole.{ReadWhole, fieldsRead}
 use Rattle.pps_syntax.specs.Record.{partitionRecord, recordOf}
-use Rattle.pps_syntax.specs.SliceTables.{putSlices, splitTotal, allSplitHeights}
+use Rattle.pps_syntax.specs.SliceTables.{rowOf, putSlices, splitTotal, allSplitHeights}
+use Rattle.pps_syntax.specs.SubpicIds.{maxSubpics}
 use Rattle.pps_syntax.specs.WrittenBack.{extensionRead}
 use Rattle.syntax.specs.Elements.{orElse, isSet}
 use Rattle.syntax.specs.Facts.{Facts, facts}
@@ -32,10 +34,10 @@ use Rattle.tables.specs.Tables.{blank, over, over-length, blank-length}
 
 -- ---- the lists of the partition, where there is one
 pub record Few (ps : List PartitionBlock) : Type 0 where
-  pub columns : length (columnsOf ps) ≤ 30
-  pub rows : length (rowsOf ps) ≤ 990
-  pub entries : length (slicesOf ps) ≤ 999
-  pub split-heights : length (allSplitHeights (slicesOf ps)) ≤ 1000
+  pub columns : length (columnsOf ps) ≤ maxTileColumns
+  pub rows : length (rowsOf ps) ≤ maxTiles
+  pub entries : length (slicesOf ps) ≤ maxSlicesMinus1
+  pub split-heights : length (allSplitHeights (slicesOf ps)) ≤ maxSlices
   pub counted : AllCounted (slicesOf ps)
 
 few : (parted : Bool) (W H : ℕ) (ps : List PartitionBlock) → refusalIn (orElse parted (many 1 (partitionElement W H) 26) (none 0) .symbols ps) ≡ 0
@@ -67,20 +69,15 @@ laid-long n xs t h l =
 put-long : {A : Type 0} (n : ℕ) (xs t : List A) (v : A) → n ≤ length t → leb n (length (sets (blank (length t) v) 0 xs)) ≡ true
 put-long n xs t v l = le-leb n _ (omega (arith, length-sets (blank (length t) v) 0 xs, blank-length (length t) v))
 
-pub filled-long : (r : Pps) (t : Lent) → Long t → length (r .front .subpicIds .«pps_subpic_id») ≤ 1000 → Few (r .partition) → tablesLong (filled r t) ≡ true
-unfolding tablesLong slicesLong filled cleared clearedSlices putSlices
+pub filled-long : (r : Pps) (t : Lent) → Long t → length (r .front .subpicIds .«pps_subpic_id») ≤ maxSubpics → Few (r .partition) → tablesLong (filled r t) ≡ true
+unfolding lengthsFit filled cleared clearedSlices putSlices
 filled-long r t l i f =
     rw (
-      laid-long 1000 (r .front .subpicIds .«pps_subpic_id») (t .subpicIds) i (l .subpicIds),
-      laid-long 30 (columnsOf (r .partition)) (t .columnWidths) (f .columns) (l .columnWidths),
-      laid-long 990 (rowsOf (r .partition)) (t .rowHeights) (f .rows) (l .rowHeights),
-      put-long 999 (map (λ x. x .«pps_slice_width_in_tiles_minus1») (slicesOf (r .partition))) (t .slices .widths) 0 (l .widths),
-      put-long 999 (map (λ x. x .«pps_slice_height_in_tiles_minus1») (slicesOf (r .partition))) (t .slices .heights) 0 (l .heights),
-      put-long 999 (map (λ x. x .splitPresent) (slicesOf (r .partition))) (t .slices .splitPresent) 0 (l .splitPresent),
-      put-long 999 (map (λ x. length (x .«pps_exp_slice_height_in_ctus_minus1»)) (slicesOf (r .partition))) (t .slices .splitCounts) 0 (l .splitCounts),
-      put-long 999 (map (λ x. x .deltaPresent) (slicesOf (r .partition))) (t .slices .deltaPresent) 0 (l .deltaPresent),
-      put-long 999 (map (λ x. x .«pps_tile_idx_delta_val») (slicesOf (r .partition))) (t .slices .deltas) (pos 0) (l .deltas),
-      put-long 1000 (allSplitHeights (slicesOf (r .partition))) (t .slices .splitHeights) 0 (l .splitHeights),
+      laid-long maxSubpics (r .front .subpicIds .«pps_subpic_id») (t .subpicIds) i (l .subpicIds),
+      laid-long maxTileColumns (columnsOf (r .partition)) (t .columnWidths) (f .columns) (l .columnWidths),
+      laid-long maxTiles (rowsOf (r .partition)) (t .rowHeights) (f .rows) (l .rowHeights),
+      put-long maxSlicesMinus1 (map rowOf (slicesOf (r .partition))) (t .slices .entries) noEntry (l .entries),
+      put-long maxSlices (allSplitHeights (slicesOf (r .partition))) (t .slices .splitHeights) 0 (l .splitHeights),
     )
 
 -- ---- the counts
@@ -103,25 +100,25 @@ or-true : (b : Bool) → (not b || true) ≡ true
 or-true true = refl
 or-true false = refl
 
-pub filled-fit : (r : Pps) (t : Lent) (first bits : ℕ) → Long t → length (r .front .subpicIds .«pps_subpic_id») ≤ 1000 → Few (r .partition) → countsFit (recordOf r first bits) (filled r t) ≡ true
+pub filled-fit : (r : Pps) (t : Lent) (first bits : ℕ) → Long t → length (r .front .subpicIds .«pps_subpic_id») ≤ maxSubpics → Few (r .partition) → countsFit (recordOf r first bits) (filled r t) ≡ true
 unfolding countsFit recordOf filled cleared
 filled-fit r t first bits l i f =
     let ps = r .partition in
     let rs = slicesOf ps in
     let m = room-of t rs l (f .entries) (f .split-heights) in
     let total : splitTotal (putSlices (clearedSlices (t .slices)) 0 0 rs) 0 (length rs) ≡ length (allSplitHeights rs) =
-    total-back (putSlices (clearedSlices (t .slices)) 0 0 rs) _ _ _ _ _ _ _ rs 0 0 (put-entries (clearedSlices (t .slices)) rs m) (f .counted) in
+    total-back (putSlices (clearedSlices (t .slices)) 0 0 rs) _ _ rs 0 0 (put-entries (clearedSlices (t .slices)) rs m) (f .counted) in
     rw (
-      le-leb (length (r .front .subpicIds .«pps_subpic_id»)) 1000 i,
+      le-leb (length (r .front .subpicIds .«pps_subpic_id»)) maxSubpics i,
       or-true (isSet (r .front .subpicIds .present)),
       columns-of (r .partitionPresent) ps,
       rows-of (r .partitionPresent) ps,
       slices-of (r .partitionPresent) ps,
       total,
-      le-leb (length (columnsOf ps)) 30 (f .columns),
-      le-leb (length (rowsOf ps)) 990 (f .rows),
-      le-leb (length rs) 999 (f .entries),
-      le-leb (length (allSplitHeights rs)) 1000 (f .split-heights),
+      le-leb (length (columnsOf ps)) maxTileColumns (f .columns),
+      le-leb (length (rowsOf ps)) maxTiles (f .rows),
+      le-leb (length rs) maxSlicesMinus1 (f .entries),
+      le-leb (length (allSplitHeights rs)) maxSlices (f .split-heights),
     )
     (or-true (isSet (partitionRecord (r .partitionPresent) ps .present)))
 

@@ -1,5 +1,6 @@
 pub mod SlicesBack
 pub mod SetBack
 pub mod LentBack
-pub mod RoundTrip
 pub mod TakenAgain
+pub mod UnitRead
+pub mod RoundTrip

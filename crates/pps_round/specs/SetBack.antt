@@ -1,35 +1,35 @@
--- The record of a set that was read, with the tables that reading leaves, says that set.
+-- The record of a set that was read, with the triples beside it and the tables that reading leaves, says that set.
 use Prim.Native.Nat.{ℕ, suc, _-_, _≤_, min}
 use mathlib.Core.Path.{_≡_, refl, ap, _∙_}
-use mathlib.Core.List.{List, [], _∷_, _++_, map, append-assoc}
+use mathlib.Core.List.{List, [], _∷_, map, append-assoc}
 use mathlib.Core.Bool.{Bool, true, false, cond, _&&_}
 use native.Mathlib.Omega.{arith}
 use lib.Dec.{eqb, leb}
-use lib.IntN.{ℤ, pos}
 use lib.ListN.{length, take, drop, length-map}
 use lib.Seq.{take-at}
 use borrow.Author.Tests.{eqb-true, leb-true}
 use Rattle.codes.specs.Symbols.{refusalIn}
 use Rattle.partition.specs.Entry.{firstPosition}
-use Rattle.partition.specs.Grid.{Grid}
+use Rattle.partition.specs.Grid.{Grid, maxTileColumns, maxTiles, maxSlicesMinus1, maxSlices}
 use Rattle.pps_answer.specs.Lending.{columnsOf, rowsOf, slicesOf, clearedSlices, cleared, filled}
+use Rattle.pps_tables.specs.Rows.{noEntry}
 use Rattle.pps_round.specs.SlicesBack.{AllCounted, Room, put-entries, slices-back, slices-counted}
 use Rattle.pps_syntax.specs.Chroma.{Triple, ChromaToolOffsets, chroma, tripleElement}
-use Rattle.pps_syntax.specs.FromRecord.{Lent, subpicIdsFrom, tripleOf, triplesFrom, chromaFrom, blockFrom, partitionFrom, setFrom, slicesLong, tablesLong}
-use Rattle.pps_syntax.specs.ListsFit.{BlockFits}
+use Rattle.pps_syntax.specs.FromRecord.{Lent, subpicIdsFrom, tripleOf, triplesFrom, chromaFrom, blockFrom, partitionFrom, setFrom, lengthsFit, tablesLong}
+use Rattle.pps_syntax.specs.ListsFit.{ListsFit}
 use Rattle.pps_syntax.specs.PartitionSyntax.{PartitionBlock, partition, partitionElement, coded}
 use Rattle.pps_syntax.specs.Pps.{Pps, front, back, pps, partitioned, picWidth, picHeight}
-use Rattle.pps_syntax.specs.Record.{mappingOf, chromaOf, rowOf, partitionRecord, recordOf}
+use Rattle.pps_syntax.specs.Record.{mappingOf, chromaOf, offsetsOf, noTriples, triplesOf, partitionRecord, recordOf}
 use Rattle.pps_syntax.specs.SliceSyntax.{RectSlice, rectSlices}
 use Rattle.pps_syntax.specs.SliceTables.{putSlices, allSplitHeights}
-use Rattle.pps_syntax.specs.SubpicIds.{SubpicIds, subpicIds}
+use Rattle.pps_syntax.specs.SubpicIds.{SubpicIds, subpicIds, maxSubpics}
 use Rattle.syntax.specs.Element.{Element}
 use Rattle.syntax.specs.Elements.{u, orElse, oneIf, isSet}
 use Rattle.syntax.specs.Facts.{Facts, facts}
 use Rattle.syntax.specs.Lists.{many, none, not-true}
 use Rattle.syntax.specs.Round.{and-parts, refusal-parts}
 use Rattle.syntax.specs.Syntax.{_>>=_, symbolsFor, refusalFor, canonicalFor}
-use Rattle.tables.specs.Tables.{over, blank-length}
+use Rattle.tables.specs.Tables.{over, blank-length, sets-over}
 
 -- ---- lists
 taken-over : {A : Type 0} (xs t : List A) → take (length xs) (over xs t) ≡ xs
@@ -45,52 +45,32 @@ here-or-none false k e n m (x ∷ l) c = absurd (not-true c)
 
 -- ---- tables at their stated lengths
 pub record Long (t : Lent) : Type 0 where
-  pub subpicIds : 1000 ≤ length (t .subpicIds)
-  pub columnWidths : 30 ≤ length (t .columnWidths)
-  pub rowHeights : 990 ≤ length (t .rowHeights)
-  pub widths : 999 ≤ length (t .slices .widths)
-  pub heights : 999 ≤ length (t .slices .heights)
-  pub splitPresent : 999 ≤ length (t .slices .splitPresent)
-  pub splitCounts : 999 ≤ length (t .slices .splitCounts)
-  pub deltaPresent : 999 ≤ length (t .slices .deltaPresent)
-  pub deltas : 999 ≤ length (t .slices .deltas)
-  pub splitHeights : 1000 ≤ length (t .slices .splitHeights)
+  pub subpicIds : maxSubpics ≤ length (t .subpicIds)
+  pub columnWidths : maxTileColumns ≤ length (t .columnWidths)
+  pub rowHeights : maxTiles ≤ length (t .rowHeights)
+  pub entries : maxSlicesMinus1 ≤ length (t .slices .entries)
+  pub splitHeights : maxSlices ≤ length (t .slices .splitHeights)
 
 pub long-of : (t : Lent) → tablesLong t ≡ true → Long t
-unfolding tablesLong slicesLong
+unfolding lengthsFit
 long-of t e =
-    let a = and-parts (leb 1000 (length (t .subpicIds))) _ e in
-    let b = and-parts (leb 30 (length (t .columnWidths))) _ (a .1) in
-    let c = and-parts (leb 990 (length (t .rowHeights))) _ (b .1) in
-    let d = and-parts (leb 999 (length (t .slices .widths))) _ (c .1) in
-    let f = and-parts (leb 999 (length (t .slices .heights))) _ (d .1) in
-    let g = and-parts (leb 999 (length (t .slices .splitPresent))) _ (f .1) in
-    let h = and-parts (leb 999 (length (t .slices .splitCounts))) _ (g .1) in
-    let i = and-parts (leb 999 (length (t .slices .deltaPresent))) _ (h .1) in
-    let j = and-parts (leb 999 (length (t .slices .deltas))) (leb 1000 (length (t .slices .splitHeights))) (i .1) in
+    let a = and-parts (leb maxSubpics (length (t .subpicIds))) _ e in
+    let b = and-parts (leb maxTileColumns (length (t .columnWidths))) _ (a .1) in
+    let c = and-parts (leb maxTiles (length (t .rowHeights))) _ (b .1) in
+    let d = and-parts (leb maxSlicesMinus1 (length (t .slices .entries))) (leb maxSlices (length (t .slices .splitHeights))) (c .1) in
     record {
       subpicIds = leb-true _ _ (a .0);
       columnWidths = leb-true _ _ (b .0);
       rowHeights = leb-true _ _ (c .0);
-      widths = leb-true _ _ (d .0);
-      heights = leb-true _ _ (f .0);
-      splitPresent = leb-true _ _ (g .0);
-      splitCounts = leb-true _ _ (h .0);
-      deltaPresent = leb-true _ _ (i .0);
-      deltas = leb-true _ _ (j .0);
-      splitHeights = leb-true _ _ (j .1);
+      entries = leb-true _ _ (d .0);
+      splitHeights = leb-true _ _ (d .1);
     }
 
-pub room-of : (t : Lent) (rs : List RectSlice) → Long t → length rs ≤ 999 → length (allSplitHeights rs) ≤ 1000 → Room (clearedSlices (t .slices)) rs
+pub room-of : (t : Lent) (rs : List RectSlice) → Long t → length rs ≤ maxSlicesMinus1 → length (allSplitHeights rs) ≤ maxSlices → Room (clearedSlices (t .slices)) rs
 unfolding clearedSlices
 room-of t rs l h k =
     record {
-      widths = omega (arith, l .widths, blank-length {A = ℕ} (length (t .slices .widths)) 0);
-      heights = omega (arith, l .heights, blank-length {A = ℕ} (length (t .slices .heights)) 0);
-      splitPresent = omega (arith, l .splitPresent, blank-length {A = ℕ} (length (t .slices .splitPresent)) 0);
-      splitCounts = omega (arith, l .splitCounts, blank-length {A = ℕ} (length (t .slices .splitCounts)) 0);
-      deltaPresent = omega (arith, l .deltaPresent, blank-length {A = ℕ} (length (t .slices .deltaPresent)) 0);
-      deltas = omega (arith, l .deltas, blank-length {A = ℤ} (length (t .slices .deltas)) (pos 0));
+      entries = omega (arith, l .entries, blank-length {A = List ℕ} (length (t .slices .entries)) noEntry);
       splitHeights = omega (arith, l .splitHeights, blank-length {A = ℕ} (length (t .slices .splitHeights)) 0);
     }
 
@@ -106,24 +86,32 @@ ids-back parted m t h c =
     rw e
 
 -- ---- the chroma offset list
-rows-back : (l : List Triple) → map tripleOf (map rowOf l) ≡ l
-rows-back [] = refl
-rows-back (t ∷ l) = ap (λ (m : List Triple). t ∷ m) (rows-back l)
+offsets-back : (l : List Triple) → map tripleOf (map offsetsOf l) ≡ l
+offsets-back [] = refl
+offsets-back (t ∷ l) = ap (λ (m : List Triple). t ∷ m) (offsets-back l)
 
-list-back : (l : List Triple) (z : List (List ℤ)) → triplesFrom (length l) (over (map rowOf l) z) ≡ l
+six : length noTriples ≡ 6
+unfolding noTriples
+six = blank-length 6 _
+
+triples-laid : (l : List Triple) → length l ≤ 6 → triplesOf l ≡ over (map offsetsOf l) noTriples
+triples-laid l h = sets-over noTriples (map offsetsOf l) (omega (arith, length-map l offsetsOf, six))
+
+list-back : (l : List Triple) → length l ≤ 6 → triplesFrom (length l) (triplesOf l) ≡ l
 unfolding triplesFrom over
-list-back l z =
-    let rest = drop (length (map rowOf l)) z in
-    ap (map tripleOf) (ap (take (length l)) (append-assoc (map rowOf l) rest ([] ∷ [])) ∙ take-at (map rowOf l) (rest ++ ([] ∷ [])) (length l) (length-map l rowOf)) ∙ rows-back l
+list-back l h =
+    let n = length-map l offsetsOf in
+    rw (triples-laid l h, n, append-assoc, take-at (map offsetsOf l) _ (length l) n) (offsets-back l)
 
-pub chroma-back : (t : ChromaToolOffsets) (z : List (List ℤ)) → refusalFor chroma t ≡ 0 → canonicalFor chroma t ≡ true → chromaFrom (chromaOf t) (over (map rowOf (t .list)) z) ≡ t
+pub chroma-back : (t : ChromaToolOffsets) → length (t .list) ≤ 6 → refusalFor chroma t ≡ 0 → canonicalFor chroma t ≡ true
+    → chromaFrom (chromaOf t) (triplesOf (t .list)) ≡ t
 unfolding chroma Facts _>>=_
-chroma-back t z h c =
+chroma-back t few h c =
     let f = facts chroma t h c .1 .1 .1 .1 .1 .1 .1 in
     let on : Bool = isSet (t .present) && isSet (t .«pps_cu_chroma_qp_offset_list_enabled_flag») in
     let joint : Bool = isSet (t .present) && isSet (t .«pps_joint_cbcr_qp_offset_present_flag») in
-    let e : cond on (triplesFrom (length (t .list)) (over (map rowOf (t .list)) z)) [] ≡ t .list =
-    ap (λ (l : List Triple). cond on l []) (list-back (t .list) z) ∙ here-or-none on (suc (length (t .list) - 1)) (tripleElement joint) 21 0 (t .list) (f .1 .1 .1 .0 .1) in
+    let e : cond on (triplesFrom (length (t .list)) (triplesOf (t .list))) [] ≡ t .list =
+    ap (λ (l : List Triple). cond on l []) (list-back (t .list) few) ∙ here-or-none on (suc (length (t .list) - 1)) (tripleElement joint) 21 0 (t .list) (f .1 .1 .1 .0 .1) in
     rw e
 
 -- ---- the partition block
@@ -148,7 +136,6 @@ holding ps z t =
       columnWidths = over (columnsOf ps) (z .columnWidths);
       rowHeights = over (rowsOf ps) (z .rowHeights);
       slices = putSlices (z .slices) 0 0 (slicesOf ps);
-      triples = t .triples;
     }
 
 block-back : (W H present : ℕ) (b : PartitionBlock) (z t : Lent) → Room (z .slices) (b .rectSlices) → AllCounted (b .rectSlices) → blockFrom (partitionRecord present (b ∷ [])) (holding (b ∷ []) z t) ≡ b
@@ -157,7 +144,7 @@ block-back W H present b z t m c =
     rw (
       taken-over (b .«pps_tile_column_width_minus1») (z .columnWidths),
       taken-over (b .«pps_tile_row_height_minus1») (z .rowHeights),
-      slices-back (putSlices (z .slices) 0 0 (b .rectSlices)) _ _ _ _ _ _ _ (b .rectSlices) 0 0 (put-entries (z .slices) (b .rectSlices) m) c,
+      slices-back (putSlices (z .slices) 0 0 (b .rectSlices)) _ _ (b .rectSlices) 0 0 (put-entries (z .slices) (b .rectSlices) m) c,
     )
 
 partition-back : (parted : Bool) (W H present : ℕ) (ps : List PartitionBlock) (z t : Lent) → ((b : PartitionBlock) → ps ≡ b ∷ [] → Room (z .slices) (b .rectSlices)) → eqb present (oneIf parted) ≡ true
@@ -178,8 +165,8 @@ unfolding partitionRecord
 present-back present [] = refl
 present-back present (b ∷ ps) = refl
 
-pub set-back : (r : Pps) (t : Lent) (first bits : ℕ) → refusalFor pps r ≡ 0 → canonicalFor pps r ≡ true → Long t → ((b : PartitionBlock) → r .partition ≡ b ∷ [] → BlockFits b)
-    → setFrom (recordOf r first bits) (filled r t) ≡ r
+pub set-back : (r : Pps) (t : Lent) (first bits : ℕ) → refusalFor pps r ≡ 0 → canonicalFor pps r ≡ true → Long t → ListsFit r
+    → setFrom (recordOf r first bits) (triplesOf (r .back .chroma .list)) (filled r t) ≡ r
 unfolding pps front back Facts _>>=_ setFrom recordOf filled cleared
 set-back r t first bits h c l fits =
     let f = facts pps r h c in
@@ -188,6 +175,6 @@ set-back r t first bits h c l fits =
     let d = facts (back parted) (r .back) (f .1 .1 .1 .0 .0) (f .1 .1 .1 .0 .1) .1 .0 in
     let z = cleared t in
     let ids = ids-back parted (r .front .subpicIds) (z .subpicIds) (a .0) (a .1) in
-    let list = chroma-back (r .back .chroma) (z .triples) (d .0) (d .1) in
-    let block = partition-back parted (picWidth (r .front)) (picHeight (r .front)) (r .partitionPresent) (r .partition) z (filled r t) (λ b e. let k = fits b e in room-of t (b .rectSlices) l (k .entries) (k .split-heights)) (f .1 .0 .1) (f .1 .1 .0 .0) (f .1 .1 .0 .1) in
+    let list = chroma-back (r .back .chroma) (fits .triples) (d .0) (d .1) in
+    let block = partition-back parted (picWidth (r .front)) (picHeight (r .front)) (r .partitionPresent) (r .partition) z (filled r t) (λ b e. let k = fits .blocks b e in room-of t (b .rectSlices) l (k .entries) (k .split-heights)) (f .1 .0 .1) (f .1 .1 .0 .0) (f .1 .1 .0 .1) in
     rw (ids, list, block, present-back (r .partitionPresent) (r .partition))

@@ -16,24 +16,17 @@ use Rattle.partition.specs.Sizes.{length-sizes}
 use Rattle.partition.specs.Walk.{rowHeightOf, onward}
 use Rattle.slice_loop.specs.declared.SliceLoopCtx.{SliceLoopCtx}
 use Rattle.slice_loop.specs.declared.SliceIdx.{SliceIdx}
+use Rattle.slice_loop.specs.Loop.{LoopOver, Follows}
 use Rattle.syntax.specs.Element.{Parsed, parsed}
 use Rattle.syntax.specs.Elements.{oneIf}
 use Rattle.syntax.specs.Syntax.{parse}
 use Rattle.pps_syntax.specs.SliceSyntax.{RectSlice, entryOf, rectSlice, sliceMove}
+use Rattle.pps_syntax.specs.SliceTables.{bitsOfDelta}
 use Rattle.pps_slices.specs.declared.parts.MoveRead.{MoveRead}
 use Rattle.pps_slices.specs.declared.entry.RectSliceRead.{RectSliceRead}
 use Rattle.pps_slices.specs.EntryReads.{widthRead, heightRead, heightsRead, lastOf, heightsTested, deltaRead}
 use Rattle.pps_slices.specs.EntrySteps.{unsplit-none, last-same, width-step, height-step, split-step, move-step}
 use Rattle.pps_slices.specs.Moves.{Moved}
-
--- a grid of so many columns and rows, of these heights
-pub record LoopOver (ctx : SliceLoopCtx) (rowHeights : List ℕ) (g : Grid) : Type 0 where
-  pub columnsAre : columns g ≡ ctx .«num_tile_columns»
-  pub rowsAre : rows g ≡ ctx .«num_tile_rows»
-  pub heightsAre : g .rowHeights ≡ rowHeights
-
-abbrev pub position : ℕ → ℕ → ℕ → Position
-position slice tile preceding = record { slice = slice; tile = tile; precedingHeightMinus1 = preceding }
 
 -- an entry that was read, with its explicit slice heights
 abbrev pub sliceOf : RectSliceRead → List ℕ → RectSlice
@@ -47,10 +40,9 @@ sliceOf r heights =
       «pps_tile_idx_delta_val» = r .delta;
     }
 
--- slice index and tile are those of a position, as far as the loop goes: a slice index is held to N, and behind the last entry there is no tile
-pub record Follows (N slice tile : ℕ) (p : Position) : Type 0 where
-  pub sliceIs : slice ≡ min (p .slice) N
-  pub tileIs : p .slice < N → tile ≡ p .tile
+-- the row that holds it
+abbrev pub readRow : RectSliceRead → List ℕ
+readRow r = r .width ∷ r .height ∷ r .«split_present» ∷ r .«split_count» ∷ r .«delta_present» ∷ bitsOfDelta (r .delta) ∷ []
 
 pub record EntryRead (g : Grid) (deltas : Bool) (N : ℕ) (k : Position) (s : List ℕ) (c : Cursor) (from : ℕ) (t u : List ℕ) (r : RectSliceRead) : Type 0 where
   pub heights : List ℕ

@@ -8,10 +8,11 @@ use native.Mathlib.Omega.{arith}
 use lib.Dec.{eqb, ltb, leb, lit<}
 use lib.ListN.{length, take, drop}
 use lib.Seq.{sets, length-sets, sets-eq, drop-at, take-at, length-take-le}
-use borrow.Author.Tests.{ltb-true, leb-true, leb-false, le-leb, le-ltb, lt-ltb}
+use borrow.Author.Tests.{ltb-true, leb-true, le-leb}
 use Rattle.bit_reader.specs.declared.Cursor.{Cursor}
 use Rattle.bit_reader.specs.declared.BitsRead.{BitsRead}
 use Rattle.bit_reader.specs.Reading.{ueRead, demanded, bitsOr}
+use Rattle.partition.specs.Checks.{not-past}
 use Rattle.partition.specs.Entry.{tileX, tileY, widthCoded, heightCoded, inheritedHeight, numSlicesInTile, splitHeights}
 use Rattle.partition.specs.Sizes.{sum, explicitSizes, length-sizes}
 use Rattle.syntax.specs.Element.{Parsed, parsed}
@@ -118,13 +119,6 @@ module _ (row N i from : ℕ) (t : List ℕ) where
 pub last-made : (i row N slices last : ℕ) (hs : List ℕ) → slices ≡ numSlicesInTile hs row → last ≡ min (i + slices - 1) N → last ≡ min (lastOf i row hs) N
 unfolding lastOf
 last-made i row N slices last hs e f = f ∙ rw e
-
-pub not-past : (a b : ℕ) → not (ltb a b) ≡ leb b a
-not-past a b = cases (leb b a) refl
-  where
-    cases : (x : Bool) → leb b a ≡ x → not (ltb a b) ≡ x
-    cases true e = rw (le-ltb a b (leb-true b a e))
-    cases false e = rw (lt-ltb a b (leb-false b a e))
 
 fits-made : (r : SlicesInTile) (hs : List ℕ) (row : ℕ) → r ≡ slicesInTile hs row → eqb (r .refused) 0 ≡ leb (sum (explicitSizes hs)) row
 fits-made r hs row e = rw (e, slices-number hs row, ← not-past row (sum (explicitSizes hs))) (cases (ltb row (sum (explicitSizes hs))))

@@ -6,21 +6,21 @@ use mathlib.Core.Bool.{Bool, true}
 use native.Mathlib.Nat.{add-zero, zero-add, sub-zero}
 use native.Mathlib.Omega.{arith}
 use lib.Dec.{ltb}
-use lib.IntN.{ℤ}
 use lib.ListN.{length, set}
 use lib.Seq.{sets, length-sets}
 use borrow.Author.Tests.{lt-ltb, le-ltb}
 use Rattle.bit_reader.specs.declared.Cursor.{Cursor}
 use Rattle.partition.specs.Entry.{Position, firstPosition, nextPosition}
-use Rattle.partition.specs.Grid.{Grid}
+use Rattle.partition.specs.Grid.{Grid, gridOf}
 use Rattle.partition.specs.Walk.{onward}
 use Rattle.syntax.specs.Element.{Parsed, parsed}
 use Rattle.syntax.specs.Syntax.{parse}
 use Rattle.pps_syntax.specs.SliceSyntax.{RectSlice, entryOf, rectSlice, rectSlices}
-use Rattle.pps_syntax.specs.SliceTables.{SliceTables, sliceTables, allSplitHeights}
+use Rattle.pps_syntax.specs.SliceTables.{SliceTables, sliceTables, rowOf, allSplitHeights}
 use Rattle.pps_slices.specs.declared.entry.RectSliceRead.{RectSliceRead}
-use Rattle.pps_slices.specs.Entries.{position, sliceOf, Follows, EntryRead}
-use Rattle.pps_slices.specs.Limits.{gridOf, loopStart, slicesFor, refusedFor, Started}
+use Rattle.pps_slices.specs.Entries.{sliceOf, readRow, EntryRead}
+use Rattle.slice_loop.specs.Loop.{position, Follows}
+use Rattle.pps_slices.specs.Limits.{loopStart, slicesFor, refusedFor, Started}
 use Rattle.pps_slices.specs.Stuck.{slices-stuck, refused-stuck}
 use Rattle.pps_slices.specs.Loop.{slicesLeft, putSlice, left-more, refusedFrom, refusedHeights, turns, turns-end, turns-more, turns-stop}
 
@@ -30,62 +30,32 @@ pub record SlicesRead (whole : Parsed (List RectSlice)) (left : List ℕ) (befor
   pub counted : count ≡ length (whole .value)
   pub tables : after ≡ slicesLeft before 0 0 (whole .value) left
 
--- an entry that was read is in its place of six tables
-pub record Stored (i : ℕ) (r : RectSliceRead) (t u : SliceTables) : Type 0 where
-  pub widths : u .widths ≡ set (t .widths) i (r .width)
-  pub heights : u .heights ≡ set (t .heights) i (r .height)
-  pub splitPresent : u .splitPresent ≡ set (t .splitPresent) i (r .«split_present»)
-  pub splitCounts : u .splitCounts ≡ set (t .splitCounts) i (r .«split_count»)
-  pub deltaPresent : u .deltaPresent ≡ set (t .deltaPresent) i (r .«delta_present»)
-  pub deltas : u .deltas ≡ set (t .deltas) i (r .delta)
-
 -- as long as they were
 pub record SameLengths (t u : SliceTables) : Type 0 where
-  pub widths : length (u .widths) ≡ length (t .widths)
-  pub heights : length (u .heights) ≡ length (t .heights)
-  pub splitPresent : length (u .splitPresent) ≡ length (t .splitPresent)
-  pub splitCounts : length (u .splitCounts) ≡ length (t .splitCounts)
-  pub deltaPresent : length (u .deltaPresent) ≡ length (t .deltaPresent)
-  pub deltas : length (u .deltas) ≡ length (t .deltas)
+  pub entries : length (u .entries) ≡ length (t .entries)
   pub splitHeights : length (u .splitHeights) ≡ length (t .splitHeights)
 
 lengths-left : (t : SliceTables) (i j : ℕ) (rs : List RectSlice) (left : List ℕ) → SameLengths t (slicesLeft t i j rs left)
 unfolding slicesLeft
-lengths-left t i j rs left =
-    record {
-      widths = length-sets (t .widths) i (map (λ r. r .«pps_slice_width_in_tiles_minus1») rs);
-      heights = length-sets (t .heights) i (map (λ r. r .«pps_slice_height_in_tiles_minus1») rs);
-      splitPresent = length-sets (t .splitPresent) i (map (λ r. r .splitPresent) rs);
-      splitCounts = length-sets (t .splitCounts) i (map (λ r. length (r .«pps_exp_slice_height_in_ctus_minus1»)) rs);
-      deltaPresent = length-sets (t .deltaPresent) i (map (λ r. r .deltaPresent) rs);
-      deltas = length-sets (t .deltas) i (map (λ r. r .«pps_tile_idx_delta_val») rs);
-      splitHeights = length-sets (t .splitHeights) j (allSplitHeights rs ++ left);
-    }
+lengths-left t i j rs left = record { entries = length-sets (t .entries) i (map rowOf rs); splitHeights = length-sets (t .splitHeights) j (allSplitHeights rs ++ left) }
 
 same-lengths : (t u : SliceTables) (i j m n : ℕ) (rs qs : List RectSlice) (a b : List ℕ) → slicesLeft t i j rs a ≡ slicesLeft u m n qs b → SameLengths t u
 same-lengths t u i j m n rs qs a b e =
     let x = lengths-left t i j rs a in
     let y = lengths-left u m n qs b in
     record {
-      widths = sym (y .widths) ∙ sym (ap (λ (z : SliceTables). length (z .widths)) e) ∙ x .widths;
-      heights = sym (y .heights) ∙ sym (ap (λ (z : SliceTables). length (z .heights)) e) ∙ x .heights;
-      splitPresent = sym (y .splitPresent) ∙ sym (ap (λ (z : SliceTables). length (z .splitPresent)) e) ∙ x .splitPresent;
-      splitCounts = sym (y .splitCounts) ∙ sym (ap (λ (z : SliceTables). length (z .splitCounts)) e) ∙ x .splitCounts;
-      deltaPresent = sym (y .deltaPresent) ∙ sym (ap (λ (z : SliceTables). length (z .deltaPresent)) e) ∙ x .deltaPresent;
-      deltas = sym (y .deltas) ∙ sym (ap (λ (z : SliceTables). length (z .deltas)) e) ∙ x .deltas;
+      entries = sym (y .entries) ∙ sym (ap (λ (z : SliceTables). length (z .entries)) e) ∙ x .entries;
       splitHeights = sym (y .splitHeights) ∙ sym (ap (λ (z : SliceTables). length (z .splitHeights)) e) ∙ x .splitHeights;
     }
 
-tables-equal : {ws hs sp sc dp sh ws′ hs′ sp′ sc′ dp′ sh′ : List ℕ} {ds ds′ : List ℤ} → ws ≡ ws′ → hs ≡ hs′ → sp ≡ sp′ → sc ≡ sc′ → dp ≡ dp′ → ds ≡ ds′ → sh ≡ sh′
-    → sliceTables ws hs sp sc dp ds sh ≡ sliceTables ws′ hs′ sp′ sc′ dp′ ds′ sh′
-tables-equal p₁ p₂ p₃ p₄ p₅ p₆ p₇ = rw (p₁, p₂, p₃, p₄, p₅, p₆, p₇)
+tables-equal : {es es′ : List (List ℕ)} {sh sh′ : List ℕ} → es ≡ es′ → sh ≡ sh′ → sliceTables es sh ≡ sliceTables es′ sh′
+tables-equal p q = rw (p, q)
 
--- with its explicit slice heights it is in all of them
-stored-slice : (i from : ℕ) (r : RectSliceRead) (hs : List ℕ) (t u : SliceTables) → r .«split_count» ≡ length hs → Stored i r t u → u .splitHeights ≡ sets (t .splitHeights) from hs
+-- an entry that was read, and its explicit slice heights, are in their places
+stored-slice : (i from : ℕ) (r : RectSliceRead) (hs : List ℕ) (t u : SliceTables) → r .«split_count» ≡ length hs → u .entries ≡ set (t .entries) i (readRow r) → u .splitHeights ≡ sets (t .splitHeights) from hs
     → u ≡ putSlice t i from (sliceOf r hs)
-unfolding putSlice
-stored-slice i from r hs t u e p q =
-    tables-equal (p .widths) (p .heights) (p .splitPresent) (p .splitCounts ∙ ap (set (t .splitCounts) i) e) (p .deltaPresent) (p .deltas) q
+unfolding putSlice rowOf
+stored-slice i from r hs t u e p q = tables-equal (p ∙ rw e) q
 
 positions : {a b c a′ b′ c′ : ℕ} → a ≡ a′ → b ≡ b′ → c ≡ c′ → position a b c ≡ position a′ b′ c′
 positions p q r = rw (p, q, r)
@@ -175,14 +145,13 @@ module _ {g : Grid} {deltas : Bool} {N : ℕ} {s : List ℕ} {c₀ : Cursor} {t�
     on = lt-ltb (H .at .slice) N (omega (arith, H .follows .sliceIs))
 
     -- an entry that is refused leaves its explicit slice heights
-    pub held-stops : (r .next .refused ≡ 0 → ⊥) → (u .widths ≡ t .widths) → (u .heights ≡ t .heights) → (u .splitPresent ≡ t .splitPresent) → (u .splitCounts ≡ t .splitCounts) → (u .deltaPresent ≡ t .deltaPresent) → (u .deltas ≡ t .deltas)
-        → SlicesRead all left₀ t₀ u i (r .next)
+    pub held-stops : (r .next .refused ≡ 0 → ⊥) → u .entries ≡ t .entries → SlicesRead all left₀ t₀ u i (r .next)
     unfolding slicesLeft allSplitHeights
-    held-stops h p₁ p₂ p₃ p₄ p₅ p₆ =
+    held-stops h p =
         let e = turns-stop g deltas N s c (H .at) left-over entry (r .next) read on h in
-        closed u (r .next) (E .heights) (rw one-less (e .0)) (rw one-less (e .1)) (tables-equal p₁ p₂ p₃ p₄ p₅ p₆ (E .table))
+        closed u (r .next) (E .heights) (rw one-less (e .0)) (rw one-less (e .1)) (tables-equal p (E .table))
 
-    pub held-more : r .next .refused ≡ 0 → Stored i r t u → Held g deltas N s c₀ t₀ u (r .next) (r .slice .0) (r .tile .0) (r .height) (i + 1) (from + r .«split_count»)
+    pub held-more : r .next .refused ≡ 0 → u .entries ≡ set (t .entries) i (readRow r) → Held g deltas N s c₀ t₀ u (r .next) (r .slice .0) (r .tile .0) (r .height) (i + 1) (from + r .«split_count»)
     unfolding nextPosition
     held-more h st =
         let e = turns-more g deltas N s c (H .at) left-over entry (r .next) read on h in

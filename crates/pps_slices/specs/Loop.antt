@@ -1,4 +1,4 @@
--- The slice loop (H.266 7.3.2.5), read into the lent tables: entry i goes to place i of six tables, its explicit slice heights behind those of the entries before it.
+-- The slice loop (H.266 7.3.2.5), read into the lent tables: entry i goes to row i, its explicit slice heights behind those of the entries before it.
 use Prim.Native.Nat.{ℕ, zero, suc, _+_, _-_}
 use mathlib.Core.Path.{_≡_, refl}
 use mathlib.Core.List.{List, [], _∷_, _++_, map, append-assoc, append-nil}
@@ -17,21 +17,12 @@ use Rattle.syntax.specs.Elements.{orElse}
 use Rattle.syntax.specs.Lists.{walk}
 use Rattle.syntax.specs.Syntax.{parse}
 use Rattle.pps_syntax.specs.SliceSyntax.{RectSlice, entryOf, rectSlice, rectSliceElement, rectSlices}
-use Rattle.pps_syntax.specs.SliceTables.{SliceTables, allSplitHeights, putSlices}
+use Rattle.pps_syntax.specs.SliceTables.{SliceTables, rowOf, allSplitHeights, putSlices}
 
 -- ---- the tables
 -- The tables after entries were put from place i on, their split heights from place j on, and behind these heights `left`.
 unfoldable pub slicesLeft : SliceTables → ℕ → ℕ → List RectSlice → List ℕ → SliceTables
-slicesLeft t i j rs left =
-    record {
-      widths = sets (t .widths) i (map (λ r. r .«pps_slice_width_in_tiles_minus1») rs);
-      heights = sets (t .heights) i (map (λ r. r .«pps_slice_height_in_tiles_minus1») rs);
-      splitPresent = sets (t .splitPresent) i (map (λ r. r .splitPresent) rs);
-      splitCounts = sets (t .splitCounts) i (map (λ r. length (r .«pps_exp_slice_height_in_ctus_minus1»)) rs);
-      deltaPresent = sets (t .deltaPresent) i (map (λ r. r .deltaPresent) rs);
-      deltas = sets (t .deltas) i (map (λ r. r .«pps_tile_idx_delta_val») rs);
-      splitHeights = sets (t .splitHeights) j (allSplitHeights rs ++ left);
-    }
+slicesLeft t i j rs left = record { entries = sets (t .entries) i (map rowOf rs); splitHeights = sets (t .splitHeights) j (allSplitHeights rs ++ left) }
 
 -- with nothing left they are the entries' tables
 pub left-none : (t : SliceTables) (i j : ℕ) (rs : List RectSlice) → slicesLeft t i j rs [] ≡ putSlices t i j rs
@@ -40,16 +31,7 @@ left-none t i j rs = rw (append-nil (allSplitHeights rs))
 
 -- one entry
 unfoldable pub putSlice : SliceTables → ℕ → ℕ → RectSlice → SliceTables
-putSlice t i j r =
-    record {
-      widths = set (t .widths) i (r .«pps_slice_width_in_tiles_minus1»);
-      heights = set (t .heights) i (r .«pps_slice_height_in_tiles_minus1»);
-      splitPresent = set (t .splitPresent) i (r .splitPresent);
-      splitCounts = set (t .splitCounts) i (length (r .«pps_exp_slice_height_in_ctus_minus1»));
-      deltaPresent = set (t .deltaPresent) i (r .deltaPresent);
-      deltas = set (t .deltas) i (r .«pps_tile_idx_delta_val»);
-      splitHeights = sets (t .splitHeights) j (r .«pps_exp_slice_height_in_ctus_minus1»);
-    }
+putSlice t i j r = record { entries = set (t .entries) i (rowOf r); splitHeights = sets (t .splitHeights) j (r .«pps_exp_slice_height_in_ctus_minus1») }
 
 pub left-more : (t : SliceTables) (i j : ℕ) (r : RectSlice) (rs : List RectSlice) (left : List ℕ)
     → slicesLeft t i j (r ∷ rs) left ≡ slicesLeft (putSlice t i j r) (suc i) (j + length (r .«pps_exp_slice_height_in_ctus_minus1»)) rs left

@@ -2,7 +2,8 @@
 ghost use Prim.Native.Nat.{_*_, _≤_, _<_};
 ghost use lib.ListN.{length};
 ghost use Rattle.partition.specs.Grid.{Grid};
-ghost use Rattle.pps_slices.specs.Entries.{LoopOver, position, EntryRead};
+ghost use Rattle.pps_slices.specs.Entries.{EntryRead};
+ghost use Rattle.slice_loop.specs.Loop.{LoopOver, position};
 use super::parts::flag_of;
 use super::parts::read_height;
 use super::parts::read_move;
@@ -18,9 +19,9 @@ use slice_loop::TileIdx;
 pub struct RectSliceRead {
     pub width: u32,
     pub height: u32,
-    pub split_present: u8,
+    pub split_present: u32,
     pub split_count: u32,
-    pub delta_present: u8,
+    pub delta_present: u32,
     pub delta: i32,
     pub slice: SliceIdx,
     pub tile: TileIdx,

@@ -1,18 +1,18 @@
 // The rectangular slices of a picture parameter set, read into lent tables (the slice loop of the Rust's parse_partition).
 ghost use mathlib.Core.Path.{_≡_};
-ghost use Prim.Native.Nat.{_/_, _<_};
 ghost use lib.ListN.{length};
-ghost use Rattle.pps_syntax.specs.SliceTables.{sliceTables};
+ghost use Rattle.pps_tables.specs.Parameters.{slicesBefore, slicesAfter};
 ghost use Rattle.pps_slices.specs.Held.{SlicesRead};
-ghost use Rattle.pps_slices.specs.Limits.{withinLimits, loopStart, slicesFor, refusedFor};
+ghost use Rattle.pps_slices.specs.Limits.{loopStart, slicesFor, refusedFor};
 use bit_reader::Cursor;
 use bit_reader::guarded::demand;
 use entry::read_rect_slice;
+use pps_tables::ENTRY_LEN;
 use put::put_slice;
 use slice_loop::SliceIdx;
 use slice_loop::SliceLoopCtx;
 use slice_loop::TileIdx;
-use tile_grid::TileGrid;
+use tile_sizes::within_limits;
 
 mod entry;
 mod parts;
@@ -22,16 +22,6 @@ mod put;
 pub struct RectSlicesRead {
     pub count: u32,
     pub next: Cursor,
-}
-
-fn within_limits(columns: usize, rows: usize) -> bool
-    ensures { λ r. ⌜ r ≡ withinLimits columns rows ⌝ }
-{
-    let most = TileGrid::MAX_TILES as usize;
-    if columns == 0 {
-        return rows == 0;
-    }
-    (columns <= TileGrid::MAX_TILE_COLUMNS as usize) & (rows <= most / columns)
 }
 
 fn loop_start(columns: usize, rows: usize, n: SliceIdx, places: usize, c: Cursor) -> Cursor
@@ -50,16 +40,11 @@ pub fn read_rect_slices(
     row_heights: &[u32],
     deltas_coded: bool,
     n: SliceIdx,
-    widths: &mut [u32],
-    heights: &mut [u32],
-    split_present: &mut [u8],
-    split_counts: &mut [u32],
-    delta_present: &mut [u8],
-    deltas: &mut [i32],
+    entries: &mut [[u32; ENTRY_LEN]],
     split_heights: &mut [u32],
     c: Cursor,
 ) -> RectSlicesRead
-    ensures { λ r. ⌜ SlicesRead (slicesFor (now («column_widths» .entry)) (now («row_heights» .entry)) «deltas_coded» (n .0) (length (now («split_heights» .entry))) (now (s .entry)) c) (refusedFor (now («column_widths» .entry)) (now («row_heights» .entry)) «deltas_coded» (n .0) (length (now («split_heights» .entry))) (now (s .entry)) c) (sliceTables (now (widths .entry)) (now (heights .entry)) (now («split_present» .entry)) (now («split_counts» .entry)) (now («delta_present» .entry)) (now (deltas .entry)) (now («split_heights» .entry))) (sliceTables (now (widths .exit)) (now (heights .exit)) (now («split_present» .exit)) (now («split_counts» .exit)) (now («delta_present» .exit)) (now (deltas .exit)) (now («split_heights» .exit))) (r .count) (r .next) ⌝ }
+    ensures { λ r. ⌜ SlicesRead (slicesFor (now («column_widths» .entry)) (now («row_heights» .entry)) «deltas_coded» (n .0) (length (now («split_heights» .entry))) (now (s .entry)) c) (refusedFor (now («column_widths» .entry)) (now («row_heights» .entry)) «deltas_coded» (n .0) (length (now («split_heights» .entry))) (now (s .entry)) c) (slicesBefore entries «split_heights») (slicesAfter entries «split_heights») (r .count) (r .next) ⌝ }
 {
     let start = loop_start(
         column_widths.len(),
@@ -105,16 +90,7 @@ pub fn read_rect_slices(
                 next: cur,
             };
         }
-        put_slice(
-            r,
-            i,
-            widths,
-            heights,
-            split_present,
-            split_counts,
-            delta_present,
-            deltas,
-        );
+        put_slice(r, i, entries);
         slice = r.slice;
         tile = r.tile;
         preceding_height = r.height;

@@ -26,7 +26,7 @@ use tile_sizes::SlicesInTile;
 use tile_sizes::num_slices_in_tile;
 
 // A presence flag.
-pub fn flag_of(on: bool) -> u8
+pub fn flag_of(on: bool) -> u32
     ensures { λ r. ⌜ r ≡ oneIf on ⌝ }
 {
     if on { 1 } else { 0 }

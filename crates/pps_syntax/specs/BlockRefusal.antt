@@ -113,12 +113,12 @@ grid-codable : (W H ctu : ℕ) (ws hs : List ℕ) → H < 4294967296 → ltb max
 unfolding tileGrid tileRowHeight
 grid-codable W H ctu ws hs l a b c =
     let h : ℕ = inCtbs H ctu in
-    let few : length (axisSizes ws (inCtbs W ctu)) ≤ 30 = ltb-false 30 (length (axisSizes ws (inCtbs W ctu))) a in
+    let few : length (axisSizes ws (inCtbs W ctu)) ≤ maxTileColumns = ltb-false maxTileColumns (length (axisSizes ws (inCtbs W ctu))) a in
     let low : length (axisSizes hs h) ≤ maxTiles / length (axisSizes ws (inCtbs W ctu)) = ltb-false (maxTiles / length (axisSizes ws (inCtbs W ctu))) (length (axisSizes hs h)) c in
     let all : sum (axisSizes hs h) ≡ h = sum-sizes hs h (ltb-false h (sum (explicitSizes hs)) b) in
     record {
       few-columns = omega arith;
-      few-rows = omega (arith, div-le-self 990 (length (axisSizes ws (inCtbs W ctu))));
+      few-rows = omega (arith, div-le-self maxTiles (length (axisSizes ws (inCtbs W ctu))));
       low-rows = λ t. omega (arith, ctbs-most H ctu, row-most (axisSizes hs h) (tileY (length (axisSizes ws (inCtbs W ctu))) t));
     }
 

@@ -1,20 +1,23 @@
--- The set that a record and its lent tables say: what writing writes and the questions ask about. Counts of an absent part are taken as 0 (docs/BEHAVIOUR.md).
+-- The set that a record, the triples beside it and its lent tables say: what writing writes and the questions ask about. Counts of an absent part are taken as 0
+-- (docs/BEHAVIOUR.md).
 use Prim.Native.Nat.{ℕ, _+_, _*_}
 use mathlib.Core.List.{List, [], _∷_, _++_, map}
 use mathlib.Core.Bool.{Bool, cond, not, _&&_, _||_}
 use lib.Dec.{leb, eqb}
-use lib.IntN.{ℤ, pos}
+use lib.IntN.{pos}
 use lib.ListN.{length, getD, take}
 use Rattle.pps_record.specs.declared.VvcPps.{VvcPps}
 use Rattle.pps_record.specs.declared.VvcPpsSubpicIdMapping.{VvcPpsSubpicIdMapping}
 use Rattle.pps_record.specs.declared.VvcPpsPartition.{VvcPpsPartition}
 use Rattle.pps_record.specs.declared.VvcPpsChromaToolOffsets.{VvcPpsChromaToolOffsets}
+use Rattle.pps_record.specs.declared.VvcQpOffsets.{VvcQpOffsets}
+use Rattle.partition.specs.Grid.{maxTileColumns, maxTiles, maxSlicesMinus1, maxSlices}
 use Rattle.codes.specs.Bytes.{bitList}
 use Rattle.pps_syntax.specs.Chroma.{Triple, ChromaToolOffsets}
 use Rattle.pps_syntax.specs.PartitionSyntax.{PartitionBlock}
 use Rattle.pps_syntax.specs.Pps.{Front, Back, Pps}
 use Rattle.pps_syntax.specs.SliceTables.{SliceTables, slicesFrom, splitTotal}
-use Rattle.pps_syntax.specs.SubpicIds.{SubpicIds}
+use Rattle.pps_syntax.specs.SubpicIds.{SubpicIds, maxSubpics}
 use Rattle.syntax.specs.Elements.{isSet}
 
 -- ---- what is lent beside the record
@@ -23,7 +26,9 @@ pub record Lent : Type 0 where
   pub columnWidths : List ℕ
   pub rowHeights : List ℕ
   pub slices : SliceTables
-  pub triples : List (List ℤ)
+
+abbrev pub lent : List ℕ → List ℕ → List ℕ → SliceTables → Lent
+lent ids columns rows slices = record { subpicIds = ids; columnWidths = columns; rowHeights = rows; slices = slices }
 
 -- ---- blocks
 abbrev pub subpicIdsFrom : VvcPpsSubpicIdMapping → List ℕ → SubpicIds
@@ -35,16 +40,16 @@ subpicIdsFrom m ids =
       «pps_subpic_id» = cond (isSet (m .present)) (take (m .«num_subpic_ids») ids) [];
     }
 
--- a row of three as a triple
-abbrev pub tripleOf : List ℤ → Triple
-tripleOf row = record { cb = getD row 0 (pos 0); cr = getD row 1 (pos 0); joint = getD row 2 (pos 0) }
+-- three offsets as a triple
+abbrev pub tripleOf : VvcQpOffsets → Triple
+tripleOf o = record { cb = getD (o .0) 0 (pos 0); cr = getD (o .0) 1 (pos 0); joint = getD (o .0) 2 (pos 0) }
 
--- n triples: those of the six rows, and one of zeros behind them, so that a length over 6 is seen as such
-unfoldable pub triplesFrom : ℕ → List (List ℤ) → List Triple
-triplesFrom n rows = map tripleOf (take n (rows ++ ([] ∷ [])))
+-- n triples: the six, and one of zeros behind them, so that a length over 6 is seen as such
+unfoldable pub triplesFrom : ℕ → List VvcQpOffsets → List Triple
+triplesFrom n triples = map tripleOf (take n (triples ++ (record { 0 = [] } ∷ [])))
 
-abbrev pub chromaFrom : VvcPpsChromaToolOffsets → List (List ℤ) → ChromaToolOffsets
-chromaFrom c rows =
+abbrev pub chromaFrom : VvcPpsChromaToolOffsets → List VvcQpOffsets → ChromaToolOffsets
+chromaFrom c triples =
     record {
       present = c .present;
       «pps_cb_qp_offset» = c .«pps_cb_qp_offset»;
@@ -53,7 +58,7 @@ chromaFrom c rows =
       «pps_joint_cbcr_qp_offset_value» = c .«pps_joint_cbcr_qp_offset_value»;
       «pps_slice_chroma_qp_offsets_present_flag» = c .«pps_slice_chroma_qp_offsets_present_flag»;
       «pps_cu_chroma_qp_offset_list_enabled_flag» = c .«pps_cu_chroma_qp_offset_list_enabled_flag»;
-      list = cond (isSet (c .present) && isSet (c .«pps_cu_chroma_qp_offset_list_enabled_flag»)) (triplesFrom (c .«cu_chroma_qp_offset_list_len») rows) [];
+      list = cond (isSet (c .present) && isSet (c .«pps_cu_chroma_qp_offset_list_enabled_flag»)) (triplesFrom (c .«cu_chroma_qp_offset_list_len») triples) [];
     }
 
 abbrev pub blockFrom : VvcPpsPartition → Lent → PartitionBlock
@@ -92,7 +97,7 @@ frontFrom r ids =
       subpicIds = subpicIdsFrom (r .«subpic_id_mapping») ids;
     }
 
-abbrev pub backFrom : VvcPps → List (List ℤ) → Back
+abbrev pub backFrom : VvcPps → List VvcQpOffsets → Back
 backFrom r triples =
     record {
       references =
@@ -123,28 +128,26 @@ backFrom r triples =
           };
     }
 
-unfoldable pub setFrom : VvcPps → Lent → Pps
-setFrom r t = record { front = frontFrom r (t .subpicIds); partitionPresent = r .partition .present; partition = partitionFrom (r .partition) t; back = backFrom r (t .triples) }
+unfoldable pub setFrom : VvcPps → List VvcQpOffsets → Lent → Pps
+setFrom r triples t = record { front = frontFrom r (t .subpicIds); partitionPresent = r .partition .present; partition = partitionFrom (r .partition) t; back = backFrom r triples }
 
 -- the extension bits, in the lent bytes
 unfoldable pub extensionFrom : VvcPps → List ℕ → List ℕ
 extensionFrom r bytes = bitList bytes (r .«pps_extension_data_first_bit») (r .«pps_extension_data_bits»)
 
 -- ---- 5: tables at their stated lengths, and counts that they hold
-unfoldable pub slicesLong : SliceTables → Bool
-slicesLong t =
-    leb 999 (length (t .widths)) && (leb 999 (length (t .heights)) && (leb 999 (length (t .splitPresent)) && (leb 999 (length (t .splitCounts))
-    && (leb 999 (length (t .deltaPresent)) && (leb 999 (length (t .deltas)) && leb 1000 (length (t .splitHeights)))))))
+unfoldable pub lengthsFit : ℕ → ℕ → ℕ → ℕ → ℕ → Bool
+lengthsFit ids columns rows entries splitHeights = leb maxSubpics ids && (leb maxTileColumns columns && (leb maxTiles rows && (leb maxSlicesMinus1 entries && leb maxSlices splitHeights)))
 
-unfoldable pub tablesLong : Lent → Bool
-tablesLong t = leb 1000 (length (t .subpicIds)) && (leb 30 (length (t .columnWidths)) && (leb 990 (length (t .rowHeights)) && slicesLong (t .slices)))
+abbrev pub tablesLong : Lent → Bool
+tablesLong t = lengthsFit (length (t .subpicIds)) (length (t .columnWidths)) (length (t .rowHeights)) (length (t .slices .entries)) (length (t .slices .splitHeights))
 
 unfoldable pub countsFit : VvcPps → Lent → Bool
 countsFit r t =
     let p : VvcPpsPartition = r .partition in
-    (not (isSet (r .«subpic_id_mapping» .present)) || leb (r .«subpic_id_mapping» .«num_subpic_ids») 1000)
+    (not (isSet (r .«subpic_id_mapping» .present)) || leb (r .«subpic_id_mapping» .«num_subpic_ids») maxSubpics)
     && (not (isSet (p .present))
-    || (leb (p .«num_tile_column_widths») 30 && (leb (p .«num_tile_row_heights») 990 && (leb (p .«num_rect_slices») 999 && leb (splitTotal (t .slices) 0 (p .«num_rect_slices»)) 1000))))
+    || (leb (p .«num_tile_column_widths») maxTileColumns && (leb (p .«num_tile_row_heights») maxTiles && (leb (p .«num_rect_slices») maxSlicesMinus1 && leb (splitTotal (t .slices) 0 (p .«num_rect_slices»)) maxSlices))))
 
 -- extension bits, where there are any, lie in the lent bytes
 unfoldable pub extensionLent : VvcPps → List ℕ → Bool

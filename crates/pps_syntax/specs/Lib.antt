@@ -30,3 +30,4 @@ pub mod Written
 pub mod WrittenBack
 pub mod FromRecord
 pub mod WriteAnswers
+pub mod SliceFlags

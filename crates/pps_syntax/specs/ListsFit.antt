@@ -9,7 +9,7 @@ use lib.ListN.{length}
 use borrow.Author.Tests.{leb-true, ltb-true, eqb-true}
 use Rattle.codes.specs.Symbols.{refusalIn, check}
 use Rattle.partition.specs.Entry.{firstPosition}
-use Rattle.partition.specs.Grid.{Grid, maxTileColumns, maxTiles, maxSlicesMinus1}
+use Rattle.partition.specs.Grid.{Grid, maxTileColumns, maxTiles, maxSlicesMinus1, maxSlices}
 use Rattle.pps_syntax.specs.Chroma.{ChromaToolOffsets, chroma}
 use Rattle.pps_syntax.specs.PartitionSyntax.{PartitionBlock, partition, partitionElement, coded}
 use Rattle.pps_syntax.specs.Pps.{Pps, front, back, pps, partitioned, picWidth, picHeight}
@@ -18,7 +18,7 @@ use Rattle.pps_syntax.specs.ReadWhole.{read-whole}
 use Rattle.pps_syntax.specs.SliceSyntax.{RectSlice, rectSlices}
 use Rattle.pps_syntax.specs.SliceTables.{allSplitHeights}
 use Rattle.pps_syntax.specs.SlicesFit.{slices-fit}
-use Rattle.pps_syntax.specs.SubpicIds.{SubpicIds, subpicIds}
+use Rattle.pps_syntax.specs.SubpicIds.{SubpicIds, subpicIds, maxSubpics, maxSubpicsMinus1}
 use Rattle.syntax.specs.Element.{Element}
 use Rattle.syntax.specs.Elements.{u, ue, limited, absent, sameℕ, orElse, isSet, check-held}
 use Rattle.syntax.specs.Facts.{Facts, facts}
@@ -45,24 +45,24 @@ bounded true limit v n m l h c = limit-held limit v n l h
 bounded false limit v n m l h c = omega (arith, eqb-true v 0 c)
 
 -- ---- the subpicture ids
-pub ids-fit : (parted : Bool) (m : SubpicIds) → refusalFor (subpicIds parted) m ≡ 0 → canonicalFor (subpicIds parted) m ≡ true → length (m .«pps_subpic_id») ≤ 1000
+pub ids-fit : (parted : Bool) (m : SubpicIds) → refusalFor (subpicIds parted) m ≡ 0 → canonicalFor (subpicIds parted) m ≡ true → length (m .«pps_subpic_id») ≤ maxSubpics
 unfolding subpicIds Facts _>>=_
 ids-fit parted m h c =
     let f = facts (subpicIds parted) m h c in
     let num : ℕ = m .«pps_num_subpics_minus1» in
     let on : Bool = isSet (m .present) in
-    let few : num ≤ 999 = bounded (on && parted) 999 num 8 (cond on 26 0) (lit< tt) (f .1 .0 .0) (f .1 .0 .1) in
+    let few : num ≤ maxSubpicsMinus1 = bounded (on && parted) maxSubpicsMinus1 num 8 (cond on 26 0) (lit< tt) (f .1 .0 .0) (f .1 .0 .1) in
     omega (arith, few, listed on (suc num) (u (suc (min (m .«pps_subpic_id_len_minus1») 15)) 27) 27 0 (m .«pps_subpic_id») (f .1 .1 .1 .0 .1))
 
 -- ---- the partition block
 pub record BlockFits (b : PartitionBlock) : Type 0 where
-  pub column-widths : length (b .«pps_tile_column_width_minus1») ≤ 30
-  pub row-heights : length (b .«pps_tile_row_height_minus1») ≤ 990
-  pub entries : length (b .rectSlices) ≤ 999
-  pub split-heights : length (allSplitHeights (b .rectSlices)) ≤ 1000
+  pub column-widths : length (b .«pps_tile_column_width_minus1») ≤ maxTileColumns
+  pub row-heights : length (b .«pps_tile_row_height_minus1») ≤ maxTiles
+  pub entries : length (b .rectSlices) ≤ maxSlicesMinus1
+  pub split-heights : length (allSplitHeights (b .rectSlices)) ≤ maxSlices
 
-slices-of-block : (on : Bool) (g : Grid) (deltas : Bool) (N : ℕ) (rs : List RectSlice) → N ≤ 999 → refusalIn (orElse on (rectSlices g deltas N firstPosition) (none 26) .symbols rs) ≡ 0
-    → orElse on (rectSlices g deltas N firstPosition) (none 26) .canonical rs ≡ true → (length rs ≤ 999) × (length (allSplitHeights rs) ≤ 1000)
+slices-of-block : (on : Bool) (g : Grid) (deltas : Bool) (N : ℕ) (rs : List RectSlice) → N ≤ maxSlicesMinus1 → refusalIn (orElse on (rectSlices g deltas N firstPosition) (none 26) .symbols rs) ≡ 0
+    → orElse on (rectSlices g deltas N firstPosition) (none 26) .canonical rs ≡ true → (length rs ≤ maxSlicesMinus1) × (length (allSplitHeights rs) ≤ maxSlices)
 unfolding orElse allSplitHeights
 slices-of-block true g deltas N rs few h c = let f = slices-fit g deltas N firstPosition rs h c in (omega (arith, f .entries), omega (arith, f .heights (omega arith)))
 slices-of-block false g deltas N [] few h c = (omega arith, omega arith)
@@ -78,7 +78,7 @@ block-fits W H b h c =
     let slices = f .1 .1 .1 .1 .1 .1 .1 .1 .1 .1 .1 .1 .1 .1 .1 .1 .1 .1 in
     let N : ℕ = b .«pps_num_slices_in_pic_minus1» in
     let on : Bool = coded (b .«pps_rect_slice_flag») (b .«pps_single_slice_per_subpic_flag») in
-    let few : N ≤ 999 = bounded on maxSlicesMinus1 N 14 0 (lit< tt) (slices .0 .0) (slices .0 .1) in
+    let few : N ≤ maxSlicesMinus1 = bounded on maxSlicesMinus1 N 14 0 (lit< tt) (slices .0 .0) (slices .0 .1) in
     let s = slices-of-block on _ (isSet (b .«pps_tile_idx_delta_present_flag»)) N (b .rectSlices) few (slices .1 .1 .0 .0) (slices .1 .1 .0 .1) in
     record {
       column-widths = omega (arith, ltb-true cols maxTileColumns (counts .0));
@@ -96,7 +96,7 @@ triples-fit t h c =
 
 -- ---- the set
 pub record ListsFit (r : Pps) : Type 0 where
-  pub subpic-ids : length (r .front .subpicIds .«pps_subpic_id») ≤ 1000
+  pub subpic-ids : length (r .front .subpicIds .«pps_subpic_id») ≤ maxSubpics
   pub blocks : (b : PartitionBlock) → r .partition ≡ b ∷ [] → BlockFits b
   pub triples : length (r .back .chroma .list) ≤ 6
 

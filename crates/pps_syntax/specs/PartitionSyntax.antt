@@ -8,7 +8,7 @@ use lib.Dec.{eqb, ltb, leb, lit<}
 use lib.ListN.{length}
 use borrow.Author.Tests.{ne-eqb}
 use Rattle.partition.specs.Entry.{firstPosition}
-use Rattle.partition.specs.Grid.{tiles, maxTileColumns, maxTiles, maxSlicesMinus1}
+use Rattle.partition.specs.Grid.{Grid, tiles, maxTileColumns, maxTiles, maxSlicesMinus1}
 use Rattle.partition.specs.Partition.{Partition, inCtbs, tileGrid}
 use Rattle.partition.specs.Sizes.{sum, explicitSizes, axisSizes}
 use Rattle.pps_syntax.specs.SliceSyntax.{RectSlice, entryOf, rectSlices}
@@ -38,29 +38,48 @@ some l = not (eqb (length l) 0)
 abbrev pub coded : ℕ → ℕ → Bool
 coded rect single = isSet rect && eqb single 0
 
+-- pps_log2_ctu_size_minus5, at most 2
+abbrev pub ctuSize : Element ℕ
+ctuSize = limited (u 2 0) (λ v. leb v 2) 9 (lit< tt)
+
+-- as many explicit sizes minus 1 as were counted, one more than the count says; each below the picture's CTBs on its axis
+abbrev pub explicit : ℕ → ℕ → Element (List ℕ)
+explicit countMinus1 ctbs = many (suc countMinus1) (limited ue (λ v. ltb v ctbs) 11 (lit< tt)) 10
+
+-- there is more than one tile
+abbrev pub several : Grid → Bool
+several g = ltb 1 (tiles g)
+
+-- pps_rect_slice_flag, 1 where there is a single tile
+abbrev pub rectFlag : Bool → Element ℕ
+rectFlag several = orElse several flag (absent sameℕ 1 26)
+
+-- pps_num_slices_in_pic_minus1, at most 999
+abbrev pub slicesMinus1 : Bool → Element ℕ
+slicesMinus1 on = orElse on (limited ue (λ v. leb v maxSlicesMinus1) 14 (lit< tt)) (absent sameℕ 0 0)
+
 module _ (W H : ℕ) where
   unfoldable pub partition : Syntax PartitionBlock
   partition = do
-    ctu ← limited (u 2 0) (λ v. leb v 2) 9 (lit< tt) for (λ r. r .«pps_log2_ctu_size_minus5»)
+    ctu ← ctuSize for (λ r. r .«pps_log2_ctu_size_minus5»)
     let w = inCtbs W ctu
     let h = inCtbs H ctu
     onWriting (λ r. some (r .«pps_tile_column_width_minus1») && some (r .«pps_tile_row_height_minus1»)) 10 do
       cols ← ue for (λ r. length (r .«pps_tile_column_width_minus1») - 1)
       rows ← ue for (λ r. length (r .«pps_tile_row_height_minus1») - 1)
       onReading (ltb cols maxTileColumns && ltb rows maxTiles) 10 (lit< tt) do
-        widths ← many (suc cols) (limited ue (λ v. ltb v w) 11 (lit< tt)) 10 for (λ r. r .«pps_tile_column_width_minus1»)
-        heights ← many (suc rows) (limited ue (λ v. ltb v h) 11 (lit< tt)) 10 for (λ r. r .«pps_tile_row_height_minus1»)
+        widths ← explicit cols w for (λ r. r .«pps_tile_column_width_minus1»)
+        heights ← explicit rows h for (λ r. r .«pps_tile_row_height_minus1»)
         onBoth (leb (sum (explicitSizes widths)) w) 12 (lit< tt)
             (onBoth (leb (length (axisSizes widths w)) maxTileColumns) 13 (lit< tt)
             (onBoth (leb (sum (explicitSizes heights)) h) 12 (lit< tt)
             (onBoth (leb (length (axisSizes heights h)) (maxTiles / length (axisSizes widths w))) 13 (lit< tt) do
               let g = tileGrid W H ctu widths heights
-              let several = ltb 1 (tiles g)
-              acrossTiles ← flagIf several for (λ r. r .«pps_loop_filter_across_tiles_enabled_flag»)
-              rect ← orElse several flag (absent sameℕ 1 26) for (λ r. r .«pps_rect_slice_flag»)
+              acrossTiles ← flagIf (several g) for (λ r. r .«pps_loop_filter_across_tiles_enabled_flag»)
+              rect ← rectFlag (several g) for (λ r. r .«pps_rect_slice_flag»)
               single ← flagIf (isSet rect) for (λ r. r .«pps_single_slice_per_subpic_flag»)
               let on = coded rect single
-              N ← orElse on (limited ue (λ v. leb v maxSlicesMinus1) 14 (lit< tt)) (absent sameℕ 0 0) for (λ r. r .«pps_num_slices_in_pic_minus1»)
+              N ← slicesMinus1 on for (λ r. r .«pps_num_slices_in_pic_minus1»)
               deltas ← flagIf (on && ltb 1 N) for (λ r. r .«pps_tile_idx_delta_present_flag»)
               slices ← orElse on (rectSlices g (isSet deltas) N firstPosition) (none 26) for (λ r. r .rectSlices)
               acrossSlices ← flagIf (not (on && eqb N 0)) for (λ r. r .«pps_loop_filter_across_slices_enabled_flag»)

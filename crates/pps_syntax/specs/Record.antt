@@ -1,12 +1,15 @@
 -- A set as the record that C and Rust hold, with its lists in lent tables.
 use Prim.Native.Nat.{ℕ}
-use mathlib.Core.List.{List, [], _∷_}
-use lib.IntN.{ℤ}
+use mathlib.Core.List.{List, [], _∷_, map}
+use lib.IntN.{pos}
 use lib.ListN.{length}
+use lib.Seq.{sets}
+use Rattle.tables.specs.Tables.{blank}
 use Rattle.pps_record.specs.declared.VvcPps.{VvcPps}
 use Rattle.pps_record.specs.declared.VvcPpsSubpicIdMapping.{VvcPpsSubpicIdMapping}
 use Rattle.pps_record.specs.declared.VvcPpsPartition.{VvcPpsPartition}
 use Rattle.pps_record.specs.declared.VvcPpsChromaToolOffsets.{VvcPpsChromaToolOffsets}
+use Rattle.pps_record.specs.declared.VvcQpOffsets.{VvcQpOffsets}
 use Rattle.pps_syntax.specs.SubpicIds.{SubpicIds}
 use Rattle.pps_syntax.specs.PartitionSyntax.{PartitionBlock}
 use Rattle.pps_syntax.specs.Chroma.{Triple, ChromaToolOffsets}
@@ -35,9 +38,17 @@ chromaOf c =
       «cu_chroma_qp_offset_list_len» = length (c .list);
     }
 
--- a triple as a row of three
-abbrev pub rowOf : Triple → List ℤ
-rowOf t = t .cb ∷ t .cr ∷ t .joint ∷ []
+-- a triple as three offsets
+abbrev pub offsetsOf : Triple → VvcQpOffsets
+offsetsOf t = record { 0 = t .cb ∷ t .cr ∷ t .joint ∷ [] }
+
+-- six of zeros
+unfoldable pub noTriples : List VvcQpOffsets
+noTriples = blank 6 (record { 0 = pos 0 ∷ pos 0 ∷ pos 0 ∷ [] })
+
+-- those of a list, then zeros
+abbrev pub triplesOf : List Triple → List VvcQpOffsets
+triplesOf list = sets noTriples 0 (map offsetsOf list)
 
 -- the partition block, with its presence flag; zeros where there is none
 unfoldable pub partitionRecord : ℕ → List PartitionBlock → VvcPpsPartition

@@ -16,6 +16,13 @@ pub record SubpicIds : Type 0 where
   pub «pps_subpic_id_len_minus1» : ℕ
   pub «pps_subpic_id» : List ℕ
 
+-- the most subpictures that a set can map, and so the length of the table of their ids
+abbrev pub maxSubpicsMinus1 : ℕ
+maxSubpicsMinus1 = 999
+
+abbrev pub maxSubpics : ℕ
+maxSubpics = 1000
+
 -- The count is coded in a partitioned picture, else 0 is inferred and writing any other is refused with 26. Writing refuses another number of ids, or an id too
 -- large for its length, with 27. A length minus 1 over 15 is refused with 8; an id behind that refusal is taken as 16 bits long
 module _ (partitioned : Bool) where
@@ -23,7 +30,7 @@ module _ (partitioned : Bool) where
   subpicIds = do
     present ← flag for (λ r. r .present)
     let on = isSet present
-    num ← orElse (on && partitioned) (limited ue (λ v. leb v 999) 8 (lit< tt)) (absent sameℕ 0 (cond on 26 0)) for (λ r. r .«pps_num_subpics_minus1»)
+    num ← orElse (on && partitioned) (limited ue (λ v. leb v maxSubpicsMinus1) 8 (lit< tt)) (absent sameℕ 0 (cond on 26 0)) for (λ r. r .«pps_num_subpics_minus1»)
     len ← orElse on (limited ue (λ v. leb v 15) 8 (lit< tt)) (absent sameℕ 0 0) for (λ r. r .«pps_subpic_id_len_minus1»)
     ids ← orElse on (many (suc num) (u (suc (min len 15)) 27) 27) (none 0) for (λ r. r .«pps_subpic_id»)
     done (record { present = present; «pps_num_subpics_minus1» = num; «pps_subpic_id_len_minus1» = len; «pps_subpic_id» = ids })

@@ -10,11 +10,11 @@ use Rattle.codes.specs.Bytes.{bitList}
 use Rattle.codes.specs.Symbols.{Symbol, check, check-none}
 use Rattle.bit_writer.specs.declared.Sink.{Sink}
 use Rattle.bit_writer.specs.Writing.{Writing, sinkOver, fresh, play, play-then, closed}
-use Rattle.pps_put_partition.specs.Rest.{lentTo}
 use Rattle.pps_put_slices.specs.Stop.{upToRefusal}
 use Rattle.pps_record.specs.declared.VvcPps.{VvcPps}
 use Rattle.pps_record.specs.declared.VvcPpsPartition.{VvcPpsPartition}
-use Rattle.pps_syntax.specs.FromRecord.{Lent, blockFrom, partitionFrom, frontFrom, backFrom, setFrom, extensionFrom}
+use Rattle.pps_record.specs.declared.VvcQpOffsets.{VvcQpOffsets}
+use Rattle.pps_syntax.specs.FromRecord.{Lent, lent, blockFrom, partitionFrom, frontFrom, backFrom, setFrom, extensionFrom}
 use Rattle.pps_syntax.specs.PartitionSyntax.{PartitionBlock, partition, partitionElement}
 use Rattle.pps_syntax.specs.Pps.{front, back}
 use Rattle.pps_syntax.specs.Written.{extensionSymbols}
@@ -38,8 +38,8 @@ unfolding begun
 begun-plain nal o e h = rw (e, h)
 
 -- the state behind a whole set, with its trailing bits
-unfoldable pub setClosed : Bool → VvcPps → Lent → List ℕ → List ℕ → Writing
-setClosed nal r t bytes o = closed (play (begun nal o) (setPut (setFrom r t) (extensionFrom r bytes)))
+unfoldable pub setClosed : Bool → VvcPps → List VvcQpOffsets → Lent → List ℕ → List ℕ → Writing
+setClosed nal r triples t bytes o = closed (play (begun nal o) (setPut (setFrom r triples t) (extensionFrom r bytes)))
 
 -- ---- the block
 pub same-set : (a b : Bool) → a ≡ true → b ≡ Bool·beq a b
@@ -77,17 +77,17 @@ module _ (w : Writing) (W H : ℕ) (p : VvcPpsPartition) (t : Lent) {a : Writing
   block-missing parted e z q h = play-then w (check (Bool·beq (isSet (p .present)) parted) 26) (check false 26) q h ∙ rw (e, z)
 
 -- ---- the set
-module _ (nal : Bool) (r : VvcPps) (t : Lent) (bytes o : List ℕ) {s a b d e f : Writing} where
+module _ (nal : Bool) (r : VvcPps) (triples : List VvcQpOffsets) (t : Lent) (bytes o : List ℕ) {s a b d e f : Writing} where
   pub set-made : s ≡ begun nal o → a ≡ play s (symbolsFor front (frontFrom r (t .subpicIds)))
-      → b ≡ play a (partitionPut (eqb (r .«pps_no_pic_partition_flag») 0) (r .«pps_pic_width_in_luma_samples») (r .«pps_pic_height_in_luma_samples») (r .partition .present) (partitionFrom (r .partition) (lentTo (t .columnWidths) (t .rowHeights) (t .slices))))
-      → d ≡ play b (symbolsFor (back (eqb (r .«pps_no_pic_partition_flag») 0)) (backFrom r (t .triples)))
+      → b ≡ play a (partitionPut (eqb (r .«pps_no_pic_partition_flag») 0) (r .«pps_pic_width_in_luma_samples») (r .«pps_pic_height_in_luma_samples») (r .partition .present) (partitionFrom (r .partition) (lent [] (t .columnWidths) (t .rowHeights) (t .slices))))
+      → d ≡ play b (symbolsFor (back (eqb (r .«pps_no_pic_partition_flag») 0)) (backFrom r triples))
       → e ≡ play d (extensionSymbols (r .«pps_extension_flag») (bitList bytes (r .«pps_extension_data_first_bit») (r .«pps_extension_data_bits»)))
-      → f ≡ closed e → f ≡ setClosed nal r t bytes o
+      → f ≡ closed e → f ≡ setClosed nal r triples t bytes o
   unfolding setClosed setPut setFrom extensionFrom partitionFrom
   set-made h₀ h₁ h₂ h₃ h₄ h₅ =
       let parted = eqb (r .«pps_no_pic_partition_flag») 0 in
       let fs = symbolsFor front (frontFrom r (t .subpicIds)) in
       let ps = partitionPut parted (r .«pps_pic_width_in_luma_samples») (r .«pps_pic_height_in_luma_samples») (r .partition .present) (cond (isSet (r .partition .present)) (blockFrom (r .partition) t ∷ []) []) in
-      let bs = symbolsFor (back parted) (backFrom r (t .triples)) in
+      let bs = symbolsFor (back parted) (backFrom r triples) in
       let xs = extensionSymbols (r .«pps_extension_flag») (bitList bytes (r .«pps_extension_data_first_bit») (r .«pps_extension_data_bits»)) in
       h₅ ∙ ap closed (play-then (begun nal o) fs (ps ++ (bs ++ xs)) (h₁ ∙ ap (λ (x : Writing). play x fs) h₀) (play-then a ps (bs ++ xs) h₂ (play-then b bs xs h₃ h₄)))

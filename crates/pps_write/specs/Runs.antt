@@ -5,7 +5,6 @@ use mathlib.Core.Bool.{Bool, true, false, cond, _&&_, _||_}
 use mathlib.Core.List.{List, [], _∷_, _++_, append-nil}
 use native.Mathlib.Omega.{arith}
 use lib.Dec.{eqb, leb}
-use lib.IntN.{ℤ}
 use lib.ListN.{length, take, drop}
 use lib.Seq.{sets, take-at}
 use borrow.Author.Tests.{eqb-true, leb-true, leb-false, le-leb, lt-leb}
@@ -17,15 +16,14 @@ use Rattle.tables.specs.Tables.{over, sets-over}
 use Rattle.bit_writer.specs.Answers.{answered, answerOf, writtenAnswer, writtenOut, answer-is, fits, out-kept, out-written}
 use Rattle.bit_writer.specs.Closing.{Ran, plain-ran, nal-ran}
 use Rattle.bit_writer.specs.Writing.{Writing, putRaw, putRaws, finished, trailingBits, play, closed}
-use Rattle.pps_lent.specs.Tables.{lent}
 use Rattle.pps_record.specs.declared.VvcPps.{VvcPps}
+use Rattle.pps_record.specs.declared.VvcQpOffsets.{VvcQpOffsets}
 use Rattle.pps_syntax.specs.FromRecord.{Lent, setFrom, extensionFrom, tablesLong, countsFit, extensionLent}
 use Rattle.pps_syntax.specs.Pps.{Pps}
-use Rattle.pps_syntax.specs.SliceTables.{SliceTables}
 use Rattle.pps_syntax.specs.Written.{setSymbols, setRefusal, setRbsp, setNal}
 use Rattle.pps_write.specs.Block.{begun, setClosed}
 use Rattle.pps_write.specs.SetPut.{play-refused, setPut, put-refusal, put-whole}
-use Rattle.pps_syntax.specs.WriteAnswers.{lentRight, writeRefusal, writeBytes, writeAnswer, writeOut}
+use Rattle.pps_syntax.specs.WriteAnswers.{WriteOutcome, wrote, lentRight, writeRefusal, writeBytes, writeSet}
 
 -- ---- extension bits in the lent bytes, with no sum that passes 64 bits
 pub bits-inside : (first count len : ℕ) → leb (first / 8 + count / 8 + (first % 8 + count % 8 + 7) / 8) len ≡ leb (first + count) (len * 8)
@@ -80,75 +78,72 @@ out-over : (k n : ℕ) (bytes out : List ℕ) → writtenAnswer k bytes out ≡ 
 unfolding writtenOut outAfter
 out-over k n bytes out e = rw e
 
-module _ (nal : Bool) (r : VvcPps) (t : Lent) (bytes : List ℕ) where
+module _ (nal : Bool) (r : VvcPps) (triples : List VvcQpOffsets) (t : Lent) (bytes : List ℕ) where
   -- what the set is refused with, 5 aside
-  abbrev pub inSet : ℕ
-  inSet = setRefusal (setFrom r t) (extensionFrom r bytes)
+  abbrev inSet : ℕ
+  inSet = setRefusal (setFrom r triples t) (extensionFrom r bytes)
 
-  run-refused : (o : List ℕ) {w : Writing} → w ≡ setClosed nal r t bytes o → w .sink .refused ≡ inSet
+  -- what writing answers and leaves behind the test of what is lent
+  abbrev pub counted : List ℕ → WriteOutcome
+  counted out = wrote (writtenAnswer inSet (writeBytes nal r triples t bytes) out) (writtenOut inSet (writeBytes nal r triples t bytes) out)
+
+  run-refused : (o : List ℕ) {w : Writing} → w ≡ setClosed nal r triples t bytes o → w .sink .refused ≡ inSet
   unfolding setClosed
   run-refused o e =
-      let xs = setPut (setFrom r t) (extensionFrom r bytes) in
+      let xs = setPut (setFrom r triples t) (extensionFrom r bytes) in
       ap (λ (x : Writing). x .sink .refused) e ∙ closed-refused (play (begun nal o) xs) ∙ play-refused (begun nal o) xs
-      ∙ ap (λ (n : ℕ). first n (refusalIn xs)) (begun-fresh nal o) ∙ first-left (refusalIn xs) ∙ put-refusal (setFrom r t) (extensionFrom r bytes)
+      ∙ ap (λ (n : ℕ). first n (refusalIn xs)) (begun-fresh nal o) ∙ first-left (refusalIn xs) ∙ put-refusal (setFrom r triples t) (extensionFrom r bytes)
 
-  run-whole : (o : List ℕ) {w : Writing} → length o ≤ 2 ^ 63 → w ≡ setClosed nal r t bytes o → inSet ≡ 0 → Ran w inSet (writeBytes nal r t bytes) o
+  run-whole : (o : List ℕ) {w : Writing} → length o ≤ 2 ^ 63 → w ≡ setClosed nal r triples t bytes o → inSet ≡ 0 → Ran w inSet (writeBytes nal r triples t bytes) o
   unfolding setClosed writeBytes
-  run-whole o h e z = whole-ran nal (setFrom r t) (extensionFrom r bytes) o h (e ∙ ap (λ (xs : List Symbol). closed (play (begun nal o) xs)) (put-whole (setFrom r t) (extensionFrom r bytes) z))
+  run-whole o h e z = whole-ran nal (setFrom r triples t) (extensionFrom r bytes) o h (e ∙ ap (λ (xs : List Symbol). closed (play (begun nal o) xs)) (put-whole (setFrom r triples t) (extensionFrom r bytes) z))
 
   -- ---- a run over bytes of its own, and what becomes of the output
-  module _ (out o : List ℕ) (small : length out < 2 ^ 63) {first : Writing} (ran : first ≡ setClosed nal r t bytes o) (room : length o ≤ 2 ^ 63) where
-    own-said : {answer : ByteCount} → answer ≡ answerOf (first .sink) (length out) → answer ≡ writtenAnswer inSet (writeBytes nal r t bytes) out
+  module _ (out o : List ℕ) (small : length out < 2 ^ 63) {first : Writing} (ran : first ≡ setClosed nal r triples t bytes o) (room : length o ≤ 2 ^ 63) where
+    own-said : {answer : ByteCount} → answer ≡ answerOf (first .sink) (length out) → answer ≡ writtenAnswer inSet (writeBytes nal r triples t bytes) out
     unfolding answerOf writtenAnswer answered
     own-said e = e ∙ split (eqb inSet 0) refl
       where
-        split : (b : Bool) → eqb inSet 0 ≡ b → answerOf (first .sink) (length out) ≡ writtenAnswer inSet (writeBytes nal r t bytes) out
-        split true q = answer-is first inSet (writeBytes nal r t bytes) out o (run-whole o room ran (eqb-true inSet 0 q)) small
+        split : (b : Bool) → eqb inSet 0 ≡ b → answerOf (first .sink) (length out) ≡ writtenAnswer inSet (writeBytes nal r triples t bytes) out
+        split true q = answer-is first inSet (writeBytes nal r triples t bytes) out o (run-whole o room ran (eqb-true inSet 0 q)) small
         split false q = rw (run-refused o ran, q)
 
     pub own-refused : {answer : ByteCount} (n : ℕ) → answer ≡ answerOf (first .sink) (length out) → answer ≡ Refused n
-        → (Refused n ≡ writtenAnswer inSet (writeBytes nal r t bytes) out) × (out ≡ writtenOut inSet (writeBytes nal r t bytes) out)
-    own-refused n e d = let a = own-said e in (sym d ∙ a, out-kept inSet n (writeBytes nal r t bytes) out (sym a ∙ d))
+        → wrote (Refused n) out ≡ counted out
+    own-refused n e d = let a = own-said e in ap₂ wrote (sym d ∙ a) (out-kept inSet n (writeBytes nal r triples t bytes) out (sym a ∙ d))
 
-    pub own-again : {answer : ByteCount} (n : ℕ) {second : Writing} → answer ≡ answerOf (first .sink) (length out) → answer ≡ Bytes n → second ≡ setClosed nal r t bytes out
-        → (Bytes n ≡ writtenAnswer inSet (writeBytes nal r t bytes) out) × (second .out ≡ writtenOut inSet (writeBytes nal r t bytes) out)
+    pub own-again : {answer : ByteCount} (n : ℕ) {second : Writing} → answer ≡ answerOf (first .sink) (length out) → answer ≡ Bytes n → second ≡ setClosed nal r triples t bytes out
+        → wrote (Bytes n) (second .out) ≡ counted out
     own-again n {second} e d w =
-        let b : writtenAnswer inSet (writeBytes nal r t bytes) out ≡ Bytes n = sym (own-said e) ∙ d in
-        (sym b, out-written second inSet n (writeBytes nal r t bytes) out b (run-whole out (omega arith) w (fits inSet n (writeBytes nal r t bytes) out b .0)))
+        let b : writtenAnswer inSet (writeBytes nal r triples t bytes) out ≡ Bytes n = sym (own-said e) ∙ d in
+        ap₂ wrote (sym b) (out-written second inSet n (writeBytes nal r triples t bytes) out b (run-whole out (omega arith) w (fits inSet n (writeBytes nal r triples t bytes) out b .0)))
 
     pub own-fits : {answer : ByteCount} (n : ℕ) → answer ≡ answerOf (first .sink) (length out) → answer ≡ Bytes n → n ≤ length out
-    own-fits n e d = let k = fits inSet n (writeBytes nal r t bytes) out (sym (own-said e) ∙ d) in omega (arith, k .1, k .2)
+    own-fits n e d = let k = fits inSet n (writeBytes nal r triples t bytes) out (sym (own-said e) ∙ d) in omega (arith, k .1, k .2)
 
     -- the first n of its bytes, copied
     pub own-copied : {answer : ByteCount} (n : ℕ) {left : List ℕ} → answer ≡ answerOf (first .sink) (length out) → answer ≡ Bytes n → n ≤ length o
         → left ≡ take (length (take n (first .out))) (take n (first .out)) ++ drop (length (take n (first .out))) out
-        → (Bytes n ≡ writtenAnswer inSet (writeBytes nal r t bytes) out) × (left ≡ writtenOut inSet (writeBytes nal r t bytes) out)
+        → wrote (Bytes n) left ≡ counted out
     own-copied n {left} e d h f =
-        let wb = writeBytes nal r t bytes in
+        let wb = writeBytes nal r triples t bytes in
         let b : writtenAnswer inSet wb out ≡ Bytes n = sym (own-said e) ∙ d in
         let k = fits inSet n wb out b in
         let w = run-whole o room ran (k .0) in
         let front : take n (first .out) ≡ wb = ap (take n) (w .written) ∙ front-is wb o n (k .1) (omega (arith, k .1)) in
-        (sym b, f ∙ ap (λ (l : List ℕ). take (length l) l ++ drop (length l) out) front ∙ over-is wb out ∙ out-over inSet n wb out b)
+        ap₂ wrote (sym b) (f ∙ ap (λ (l : List ℕ). take (length l) l ++ drop (length l) out) front ∙ over-is wb out ∙ out-over inSet n wb out b)
 
   -- ---- behind the test of what is lent
-  pub lent-wrong : (out : List ℕ) {a b : Bool} → a ≡ (tablesLong t && countsFit r t) → b ≡ extensionLent r bytes → (a && b) ≡ false
-      → (Refused 5 ≡ writeAnswer nal r t bytes out) × (out ≡ writeOut nal r t bytes out)
-  unfolding writeAnswer writeOut writeRefusal
-  lent-wrong out p q e =
-      let k : lentRight r t bytes ≡ false = sym (ap₂ (λ (x y : Bool). x && y) p q) ∙ e in
-      rw k (answer-5 (writeBytes nal r t bytes) out, out-kept 5 5 (writeBytes nal r t bytes) out (sym (answer-5 (writeBytes nal r t bytes) out)))
+  module _ (out : List ℕ) {a b : Bool} (fit : a ≡ (tablesLong t && countsFit r t)) (inside : b ≡ extensionLent r bytes) where
+    pub lent-wrong : (a && b) ≡ false → wrote (Refused 5) out ≡ writeSet nal r triples t bytes out
+    unfolding writeSet writeRefusal
+    lent-wrong e =
+        let wb = writeBytes nal r triples t bytes in
+        let k : lentRight r t bytes ≡ false = sym (ap₂ (λ (x y : Bool). x && y) fit inside) ∙ e in
+        rw k (ap₂ wrote (answer-5 wb out) (out-kept 5 5 wb out (sym (answer-5 wb out))))
 
-  pub lent-well : (out : List ℕ) {a b : Bool} {answer : ByteCount} {left : List ℕ} → a ≡ (tablesLong t && countsFit r t) → b ≡ extensionLent r bytes → (a && b) ≡ true
-      → (answer ≡ writtenAnswer inSet (writeBytes nal r t bytes) out) × (left ≡ writtenOut inSet (writeBytes nal r t bytes) out)
-      → (answer ≡ writeAnswer nal r t bytes out) × (left ≡ writeOut nal r t bytes out)
-  unfolding writeAnswer writeOut writeRefusal
-  lent-well out p q e h =
-      let k : lentRight r t bytes ≡ true = sym (ap₂ (λ (x y : Bool). x && y) p q) ∙ e in
-      rw k h
-
--- the triples are no part of that test
-pub without-triples : (r : VvcPps) (ids cols rows : List ℕ) (slices : SliceTables) (triples : List (List ℤ)) {b : Bool}
-    → b ≡ (tablesLong (lent ids cols rows slices []) && countsFit r (lent ids cols rows slices [])) → b ≡ (tablesLong (lent ids cols rows slices triples) && countsFit r (lent ids cols rows slices triples))
-unfolding tablesLong countsFit
-without-triples r ids cols rows slices triples e = e
+    pub lent-well : {done : WriteOutcome} → (a && b) ≡ true → done ≡ counted out → done ≡ writeSet nal r triples t bytes out
+    unfolding writeSet writeRefusal
+    lent-well e h =
+        let k : lentRight r t bytes ≡ true = sym (ap₂ (λ (x y : Bool). x && y) fit inside) ∙ e in
+        rw k h

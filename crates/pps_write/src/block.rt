@@ -1,14 +1,15 @@
 // The partition block, where there is one.
 ghost use mathlib.Core.Bool.{Bool·beq};
+ghost use mathlib.Core.List.{[]};
 ghost use mathlib.Core.Path.{_≡_};
 ghost use Rattle.bit_writer.specs.Writing.{sinkOver, play};
-ghost use Rattle.pps_put_partition.specs.Rest.{lentTo};
-ghost use Rattle.pps_syntax.specs.FromRecord.{partitionFrom};
-ghost use Rattle.pps_syntax.specs.SliceTables.{sliceTables};
+ghost use Rattle.pps_syntax.specs.FromRecord.{lent, partitionFrom};
+ghost use Rattle.pps_tables.specs.Parameters.{slicesBefore};
 ghost use Rattle.pps_write.specs.SetPut.{partitionPut};
 use bit_writer::Sink;
 use pps_put_partition::put_partition;
 use pps_record::VvcPpsPartition;
+use pps_tables::ENTRY_LEN;
 
 fn same(a: bool, b: bool) -> bool
     ensures { λ r. ⌜ r ≡ Bool·beq a b ⌝ }
@@ -29,15 +30,16 @@ pub fn put_block(
     p: VvcPpsPartition,
     tile_column_widths: &[u32],
     tile_row_heights: &[u32],
-    widths: &[u32],
-    heights: &[u32],
-    split_present: &[u8],
-    split_counts: &[u32],
-    delta_present: &[u8],
-    deltas: &[i32],
+    entries: &[[u32; ENTRY_LEN]],
     split_heights: &[u32],
 ) -> Sink
-    ensures { λ r. ⌜ sinkOver r (now (out .exit)) ≡ play (sinkOver w (now (out .entry))) (partitionPut partitioned «pic_width» «pic_height» (p .present) (partitionFrom p (lentTo (now («tile_column_widths» .entry)) (now («tile_row_heights» .entry)) (sliceTables (now (widths .entry)) (now (heights .entry)) (now («split_present» .entry)) (now («split_counts» .entry)) (now («delta_present» .entry)) (now (deltas .entry)) (now («split_heights» .entry)))))) ⌝ }
+    ensures { λ r.
+        let columns = now («tile_column_widths» .entry) in
+        let rows = now («tile_row_heights» .entry) in
+        let blocks = partitionFrom p (lent [] columns rows (slicesBefore entries «split_heights»)) in
+        ⌜ sinkOver r (now (out .exit))
+        ≡ play (sinkOver w (now (out .entry)))
+        (partitionPut partitioned «pic_width» «pic_height» (p .present) blocks) ⌝ }
 {
     let ok = same(p.present != 0, partitioned);
     let a = bit_writer::demand(w, ok, 26);
@@ -53,12 +55,7 @@ pub fn put_block(
             p,
             tile_column_widths,
             tile_row_heights,
-            widths,
-            heights,
-            split_present,
-            split_counts,
-            delta_present,
-            deltas,
+            entries,
             split_heights,
         );
     }

@@ -1,8 +1,7 @@
 // The whole set into a sink.
 ghost use mathlib.Core.Path.{_≡_};
 ghost use Rattle.bit_writer.specs.Writing.{sinkOver};
-ghost use Rattle.pps_lent.specs.Tables.{lent};
-ghost use Rattle.pps_syntax.specs.SliceTables.{sliceTables};
+ghost use Rattle.pps_tables.specs.Parameters.{before};
 ghost use Rattle.pps_write.specs.Block.{begun, setClosed};
 use super::block::put_block;
 use bit_writer::Sink;
@@ -10,6 +9,8 @@ use pps_put_parts::extension::put_extension;
 use pps_put_parts::parts::put_back;
 use pps_put_parts::parts::put_front;
 use pps_record::VvcPps;
+use pps_record::VvcQpOffsets;
+use pps_tables::ENTRY_LEN;
 
 // A sink at the start of an RBSP, or behind the header of a NAL unit.
 fn begin(out: &mut [u8], nal: bool) -> Sink
@@ -26,20 +27,18 @@ pub fn put_set(
     out: &mut [u8],
     nal: bool,
     pps: VvcPps,
+    triples: [VvcQpOffsets; 6],
     subpic_ids: &[u32],
     tile_column_widths: &[u32],
     tile_row_heights: &[u32],
-    widths: &[u32],
-    heights: &[u32],
-    split_present: &[u8],
-    split_counts: &[u32],
-    delta_present: &[u8],
-    deltas: &[i32],
+    entries: &[[u32; ENTRY_LEN]],
     split_heights: &[u32],
-    triples: [[i32; 3]; 6],
     extension: &[u8],
 ) -> Sink
-    ensures { λ r. ⌜ sinkOver r (now (out .exit)) ≡ setClosed nal pps (lent (now («subpic_ids» .entry)) (now («tile_column_widths» .entry)) (now («tile_row_heights» .entry)) (sliceTables (now (widths .entry)) (now (heights .entry)) (now («split_present» .entry)) (now («split_counts» .entry)) (now («delta_present» .entry)) (now (deltas .entry)) (now («split_heights» .entry))) triples) (now (extension .entry)) (now (out .entry)) ⌝ }
+    ensures { λ r.
+        let t = before «subpic_ids» «tile_column_widths» «tile_row_heights» entries «split_heights» in
+        ⌜ sinkOver r (now (out .exit))
+        ≡ setClosed nal pps triples t (now (extension .entry)) (now (out .entry)) ⌝ }
 {
     let partitioned = pps.pps_no_pic_partition_flag == 0;
     let p = pps.partition;
@@ -54,12 +53,7 @@ pub fn put_set(
         p,
         tile_column_widths,
         tile_row_heights,
-        widths,
-        heights,
-        split_present,
-        split_counts,
-        delta_present,
-        deltas,
+        entries,
         split_heights,
     );
     let d = put_back(b, out, partitioned, pps, triples);

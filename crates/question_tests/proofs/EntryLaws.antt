@@ -1,45 +1,35 @@
--- An entry in its tables, and its tests as the code makes them.
+-- The tests of an entry as the code makes them.
 use mathlib.Core.Path.{_≡_, refl, ap, _∙_}
 use mathlib.Core.List.{List, [], _∷_}
 use mathlib.Core.Bool.{Bool, true, false, cond, not, _&&_, Bool·beq}
 use Prim.Native.Nat.{ℕ, suc, _+_, _-_, _≤_}
 use native.Mathlib.Omega.{arith}
 use lib.Dec.{ltb, leb, eqb}
-use lib.IntN.{ℤ, pos}
-use lib.ListN.{length, getD}
+use lib.ListN.{length}
 use Rattle.partition.specs.Checks.{firstBad, numberOf}
 use Rattle.partition.specs.Entry.{asking, heightCoded, inheritedHeight, splitCoded, splitHeights, numSlicesInTile, lastSliceOf, someAtLeast, tileX, tileY, defaultAdvance, deltaRefused, deltaUncodable, sizeChecks, inheritedChecks, splitChecks, moveChecks}
 use Rattle.partition.specs.Sizes.{sum, explicitSizes, some-size}
-use Rattle.pps_syntax.specs.SliceTables.{sliceTables, splitCount}
 use Rattle.syntax.specs.Elements.{isSet}
+use Rattle.pps_tables.specs.declared.RectSliceEntry.{RectSliceEntry}
 use Rattle.slice_loop.specs.declared.TileIdx.{TileIdx}
 use Rattle.slice_loop.specs.Answers.{tileIdx, nextByDelta}
 use Rattle.slice_loop.specs.Laws.{held-outside, delta-number}
 use Rattle.tile_sizes.specs.Answers.{slicesInTile}
 use Rattle.tile_sizes.specs.Laws.{slices-number, slices-count}
-use Rattle.question_tests.specs.declared.entries.EntryAt.{EntryAt}
-use Rattle.question_tests.specs.Tables.{entryAt, entryWith}
-use Rattle.pps_lent.specs.Tables.{splitTables}
+use Rattle.question_tests.specs.Tables.{entryWith}
 use Rattle.question_tests.specs.Steps.{position, movedTo}
 use Rattle.question_tests.proofs.TestLaws.{test-made, no-test}
 
--- ---- in the tables
-
-pub entry-made : (ws hs sp sc dp : List ℕ) (ds : List ℤ) (i w h p n m : ℕ) (d : ℤ) → w ≡ getD ws i 0 → h ≡ getD hs i 0 → p ≡ getD sp i 0 → n ≡ splitCount (splitTables sp sc) i → m ≡ getD dp i 0 → d ≡ getD ds i (pos 0)
-    → record { width = w; height = h; «split_present» = isSet p; «split_count» = n; «delta_present» = isSet m; delta = d } ≡ entryAt (sliceTables ws hs sp sc dp ds []) i
-unfolding entryAt splitCount
-entry-made ws hs sp sc dp ds i w h p n m d e₁ e₂ e₃ e₄ e₅ e₆ = rw (e₁, e₂, e₃, e₄, e₅, e₆)
-
 -- ---- sizes
 
-pub size-made : (C R t : ℕ) (e : EntryAt) (hs : List ℕ) (cl rl r b : ℕ) → cl ≡ C - tileX C t → rl ≡ R - tileY C t
+pub size-made : (C R t : ℕ) (e : RectSliceEntry) (hs : List ℕ) (cl rl r b : ℕ) → cl ≡ C - tileX C t → rl ≡ R - tileY C t
     → r ≡ cond (leb cl (e .width)) 15 b → b ≡ cond (leb rl (e .height)) 15 0 → r ≡ numberOf (firstBad (sizeChecks C R t (entryWith e hs)))
 unfolding sizeChecks
 size-made C R t e hs cl rl r b p q x y =
     test-made 15 (leb cl (e .width)) _ _ r b x (ap (λ (n : ℕ). leb n (e .width)) p)
     (λ _. test-made 15 (leb rl (e .height)) _ [] b 0 y (ap (λ (n : ℕ). leb n (e .height)) q) (λ _. no-test))
 
-pub inherited-made : (C R : ℕ) (d : Bool) (i t p : ℕ) (e : EntryAt) (hs : List ℕ) (c : Bool) (v r : ℕ) → c ≡ heightCoded C R d t → v ≡ inheritedHeight C R t p
+pub inherited-made : (C R : ℕ) (d : Bool) (i t p : ℕ) (e : RectSliceEntry) (hs : List ℕ) (c : Bool) (v r : ℕ) → c ≡ heightCoded C R d t → v ≡ inheritedHeight C R t p
     → r ≡ cond (not c && not (eqb (e .height) v)) 26 0 → r ≡ numberOf (firstBad (inheritedChecks asking C R d (position i t p) (entryWith e hs)))
 unfolding inheritedChecks
 inherited-made C R d i t p e hs c v r a b x = test-made 26 (not c && not (eqb (e .height) v)) _ [] r 0 x (rw (a, b)) (λ _. no-test)
@@ -68,9 +58,9 @@ a-slice : (split : Bool) (hs : List ℕ) (row : ℕ) → 1 ≤ cond split (numSl
 a-slice true hs row = some-slices hs row
 a-slice false hs row = omega arith
 
-module _ (N i row : ℕ) (split : Bool) (n : ℕ) (e : EntryAt) (hs : List ℕ) (sp : split ≡ splitCoded (e .width) (e .height) row) (ns : n ≡ cond split (slicesInTile hs row .«num_slices») 1) where
+module _ (N i row : ℕ) (split : Bool) (n : ℕ) (e : RectSliceEntry) (hs : List ℕ) (sp : split ≡ splitCoded (e .width) (e .height) row) (ns : n ≡ cond split (slicesInTile hs row .«num_slices») 1) where
   pub split-made : (many tall past over agrees : Bool) (r₁ r₂ r₃ r₄ r₅ : ℕ)
-      → many ≡ leb row (length hs) → tall ≡ someAtLeast row hs → past ≡ ltb row (sum (explicitSizes hs)) → over ≡ ltb N (i + n - 1) → agrees ≡ Bool·beq (e .«split_present») split
+      → many ≡ leb row (length hs) → tall ≡ someAtLeast row hs → past ≡ ltb row (sum (explicitSizes hs)) → over ≡ ltb N (i + n - 1) → agrees ≡ Bool·beq (isSet (e .«split_present»)) split
       → r₁ ≡ cond (not agrees) 26 r₂ → r₂ ≡ cond (split && many) 16 r₃ → r₃ ≡ cond (split && tall) 16 r₄ → r₄ ≡ cond (split && past) 16 r₅ → r₅ ≡ cond over 17 0
       → r₁ ≡ numberOf (firstBad (splitChecks row N i (entryWith e hs)))
   unfolding splitChecks lastSliceOf
@@ -89,23 +79,23 @@ module _ (N i row : ℕ) (split : Bool) (n : ℕ) (e : EntryAt) (hs : List ℕ) 
 
 -- ---- the way to the next tile
 
-module _ (C T : ℕ) (d more : Bool) (t : ℕ) (e : EntryAt) (hs : List ℕ) (small : T ≤ 4294967295) where
+module _ (C T : ℕ) (d more : Bool) (t : ℕ) (e : RectSliceEntry) (hs : List ℕ) (small : T ≤ 4294967295) where
   pub move-made : (by to : ℕ) (uncodable agrees : Bool) (r₁ r₂ r₃ r₄ : ℕ)
-      → by ≡ nextByDelta T t (e .delta) .refused → to ≡ tileIdx (defaultAdvance C t (e .width) (e .height)) .0 → uncodable ≡ deltaUncodable (e .delta) → agrees ≡ Bool·beq (e .«delta_present») (d && more)
-      → r₁ ≡ cond (not agrees) 26 r₂ → r₂ ≡ cond (e .«delta_present» && uncodable) 25 r₃ → r₃ ≡ cond (e .«delta_present» && not (eqb by 0)) 18 r₄ → r₄ ≡ cond (not d && (more && leb T to)) 19 0
+      → by ≡ nextByDelta T t (e .delta) .refused → to ≡ tileIdx (defaultAdvance C t (e .width) (e .height)) .0 → uncodable ≡ deltaUncodable (e .delta) → agrees ≡ Bool·beq (isSet (e .«delta_present»)) (d && more)
+      → r₁ ≡ cond (not agrees) 26 r₂ → r₂ ≡ cond (isSet (e .«delta_present») && uncodable) 25 r₃ → r₃ ≡ cond (isSet (e .«delta_present») && not (eqb by 0)) 18 r₄ → r₄ ≡ cond (not d && (more && leb T to)) 19 0
       → r₁ ≡ numberOf (firstBad (moveChecks C T d more t (entryWith e hs)))
   unfolding moveChecks
   move-made by to uncodable agrees r₁ r₂ r₃ r₄ b o u a x₁ x₂ x₃ x₄ =
       test-made 26 (not agrees) _ _ r₁ r₂ x₁ (rw a)
-      (λ _. test-made 25 (e .«delta_present» && uncodable) _ _ r₂ r₃ x₂ (rw u)
-      (λ _. test-made 18 (e .«delta_present» && not (eqb by 0)) _ _ r₃ r₄ x₃ (rw (b, delta-number T t (e .delta)) (ap (λ (x : Bool). e .«delta_present» && x) (go (deltaRefused T t (e .delta)))))
+      (λ _. test-made 25 (isSet (e .«delta_present») && uncodable) _ _ r₂ r₃ x₂ (rw u)
+      (λ _. test-made 18 (isSet (e .«delta_present») && not (eqb by 0)) _ _ r₃ r₄ x₃ (rw (b, delta-number T t (e .delta)) (ap (λ (x : Bool). isSet (e .«delta_present») && x) (go (deltaRefused T t (e .delta)))))
       (λ _. test-made 19 (not d && (more && leb T to)) _ [] r₄ 0 x₄ (rw (o, held-outside T (defaultAdvance C t (e .width) (e .height)) small)) (λ _. no-test))))
     where
       go : (x : Bool) → not (eqb (cond x 18 0) 0) ≡ x
       go true = refl
       go false = refl
 
-module _ (C T : ℕ) (d : Bool) (t : ℕ) (e : EntryAt) where
+module _ (C T : ℕ) (d : Bool) (t : ℕ) (e : RectSliceEntry) where
   pub moved-by-delta : d ≡ true → (x : TileIdx) → x ≡ nextByDelta T t (e .delta) .«tile_idx» → x ≡ movedTo C T d t e
   unfolding movedTo
   moved-by-delta q x h = rw q h

@@ -1,17 +1,15 @@
 -- The tests of the record as the code makes them.
 use mathlib.Core.Path.{_≡_, refl}
-use mathlib.Core.List.{List, []}
+use mathlib.Core.List.{[]}
 use mathlib.Core.Bool.{Bool, cond, not, _&&_, _||_, Bool·beq}
-use Prim.Native.Nat.{ℕ, _-_}
+use Prim.Native.Nat.{ℕ}
 use lib.Dec.{ltb, eqb}
 use Rattle.partition.specs.Checks.{firstBad, numberOf}
 use Rattle.pps_record.specs.declared.VvcPps.{VvcPps}
 use Rattle.pps_record.specs.declared.VvcPpsPartition.{VvcPpsPartition}
-use Rattle.pps_syntax.specs.FromRecord.{tablesLong, countsFit}
-use Rattle.pps_syntax.specs.SliceTables.{SliceTables}
+use Rattle.pps_syntax.specs.FromRecord.{Lent, tablesLong, countsFit}
 use Rattle.syntax.specs.Elements.{isSet}
 use Rattle.question_tests.specs.Questions.{flagOver1, recordChecks}
-use Rattle.question_tests.specs.Tables.{lent}
 use Rattle.question_tests.proofs.TestLaws.{test-made, no-test}
 
 pub flags-made : (p : VvcPpsPartition)
@@ -22,12 +20,12 @@ flags-made p = refl
 
 -- ---- all of them
 
-module _ (r : VvcPps) (ids ws hs : List ℕ) (t : SliceTables) where
-  pub record-made : (fit over contradicts : Bool) (r₁ r₂ r₃ r₄ r₅ : ℕ) → fit ≡ (tablesLong (lent ids ws hs t) && countsFit r (lent ids ws hs t)) → over ≡ flagOver1 (r .partition)
+module _ (r : VvcPps) (t : Lent) where
+  pub record-made : (fit over contradicts : Bool) (r₁ r₂ r₃ r₄ r₅ : ℕ) → fit ≡ (tablesLong t && countsFit r t) → over ≡ flagOver1 (r .partition)
       → contradicts ≡ Bool·beq (isSet (r .partition .present)) (isSet (r .«pps_no_pic_partition_flag»))
       → r₁ ≡ cond (not fit) 5 r₂ → r₂ ≡ cond (eqb (r .«pps_pic_width_in_luma_samples») 0 || eqb (r .«pps_pic_height_in_luma_samples») 0) 7 r₃
       → r₃ ≡ cond (ltb 1 (r .«pps_no_pic_partition_flag»)) 26 r₄ → r₄ ≡ cond (isSet (r .partition .present) && over) 26 r₅ → r₅ ≡ cond contradicts 26 0
-      → r₁ ≡ numberOf (firstBad (recordChecks r (lent ids ws hs t)))
+      → r₁ ≡ numberOf (firstBad (recordChecks r t))
   unfolding recordChecks
   record-made fit over contradicts r₁ r₂ r₃ r₄ r₅ f o k x₁ x₂ x₃ x₄ x₅ =
       test-made 5 (not fit) _ _ r₁ r₂ x₁ (rw f)

@@ -2,13 +2,13 @@
 use mathlib.Core.Path.{_≡_, refl, sym, ap, _∙_}
 use mathlib.Core.List.{List, []}
 use mathlib.Core.Bool.{Bool, true, false, cond, not, _&&_, _||_}
-use Prim.Native.Nat.{ℕ, _-_, _≤_, _<_}
+use Prim.Native.Nat.{ℕ, _≤_}
 use native.Mathlib.Omega.{arith}
 use lib.Dec.{ltb, leb, eqb, lit<}
 use borrow.Author.Tests.{ltb-true, ltb-false, le-leb, lt-leb}
 use Rattle.partition.specs.Checks.{Check, fine, firstBad, numberOf, AllPass, passes, Numbered, zero-fine, number-refused}
 use Rattle.partition.specs.Entry.{asking, firstPosition}
-use Rattle.partition.specs.Grid.{Grid, tiles, columns, rows}
+use Rattle.partition.specs.Grid.{Grid, tiles, columns, rows, maxTileColumns, maxTiles, maxSlicesMinus1}
 use Rattle.partition.specs.Partition.{Layout, declined, fromWalk, unless}
 use Rattle.partition.specs.Walk.{Walked, refused, placed, walk}
 use Rattle.pps_record.specs.declared.VvcPpsPartition.{VvcPpsPartition}
@@ -30,7 +30,7 @@ twice T v = ap (λ (b : Bool). leb T 1 && b) (go (eqb v 0))
     go false = refl
 
 module _ (T : ℕ) (rect : Bool) (N : ℕ) (deltas : Bool) (n : ℕ) where
-  pub before-coded : (on alone : Bool) (r₁ r₂ r₃ : ℕ) → on ≡ true → alone ≡ (leb T 1 && not rect) → r₁ ≡ cond alone 26 r₂ → r₂ ≡ cond (ltb 999 N) 14 r₃ → r₃ ≡ cond (deltas && ltb N 2) 26 0
+  pub before-coded : (on alone : Bool) (r₁ r₂ r₃ : ℕ) → on ≡ true → alone ≡ (leb T 1 && not rect) → r₁ ≡ cond alone 26 r₂ → r₂ ≡ cond (ltb maxSlicesMinus1 N) 14 r₃ → r₃ ≡ cond (deltas && ltb N 2) 26 0
       → r₁ ≡ numberOf (firstBad (slicingChecks T rect on N deltas n))
   unfolding slicingChecks
   before-coded on alone r₁ r₂ r₃ o a x₁ x₂ x₃ =
@@ -50,15 +50,23 @@ module _ (T : ℕ) (rect : Bool) (N : ℕ) (deltas : Bool) (n : ℕ) where
   before-passes on r e z = zero-fine (slicingChecks T rect on N deltas n) (numbered on) (sym z ∙ e)
 
   -- 14 passed
-  pub few-slices : (on : Bool) → on ≡ true → firstBad (slicingChecks T rect on N deltas n) ≡ fine → N ≤ 999
+  pub few-slices : (on : Bool) → on ≡ true → firstBad (slicingChecks T rect on N deltas n) ≡ fine → N ≤ maxSlicesMinus1
   unfolding slicingChecks AllPass
-  few-slices true o e = ltb-false 999 N (passes (slicingChecks T rect true N deltas n) e .1 .0)
+  few-slices true o e = ltb-false maxSlicesMinus1 N (passes (slicingChecks T rect true N deltas n) e .1 .0)
   few-slices false o e = absurd (let z : _≡_ {A = ℕ} 0 1 = cc in omega arith)
 
 walked-number : (g : Grid) (w : Walked) → walkRefusal w ≡ declinedWith (fromWalk g w)
 unfolding walkRefusal declinedWith fromWalk
 walked-number g (refused n) = refl
 walked-number g (placed ps) = refl
+
+pub within-both : (g : Grid) → (ltb maxTileColumns (columns g) || ltb maxTiles (rows g)) ≡ false → (columns g ≤ maxTileColumns) × (rows g ≤ maxTiles)
+within-both g h = go (ltb maxTileColumns (columns g)) (ltb maxTiles (rows g)) refl refl h
+  where
+    go : (a b : Bool) → ltb maxTileColumns (columns g) ≡ a → ltb maxTiles (rows g) ≡ b → (a || b) ≡ false → (columns g ≤ maxTileColumns) × (rows g ≤ maxTiles)
+    go true b x y z = absurd (let w : _≡_ {A = ℕ} 0 1 = cc in omega arith)
+    go false true x y z = absurd (let w : _≡_ {A = ℕ} 0 1 = cc in omega arith)
+    go false false x y z = (ltb-false maxTileColumns (columns g) x, ltb-false maxTiles (rows g) y)
 
 module _ (g : Grid) (p : VvcPpsPartition) (t : SliceTables) where
   abbrev on : Bool
@@ -77,27 +85,19 @@ module _ (g : Grid) (p : VvcPpsPartition) (t : SliceTables) where
   unfolding declinedWith
   past b l e = rw e
 
-  pub past-limits : (ltb 30 (columns g) || ltb 990 (rows g)) ≡ true → 13 ≡ declinedWith (slicedWithin g p t)
+  pub past-limits : (ltb maxTileColumns (columns g) || ltb maxTiles (rows g)) ≡ true → 13 ≡ declinedWith (slicedWithin g p t)
   unfolding slicedWithin withinLimits
-  past-limits h = past (leb (columns g) 30 && leb (rows g) 990) (slicedIn g p t) (go (ltb 30 (columns g)) (ltb 990 (rows g)) refl refl h)
+  past-limits h = past (leb (columns g) maxTileColumns && leb (rows g) maxTiles) (slicedIn g p t) (go (ltb maxTileColumns (columns g)) (ltb maxTiles (rows g)) refl refl h)
     where
-      go : (a b : Bool) → ltb 30 (columns g) ≡ a → ltb 990 (rows g) ≡ b → (a || b) ≡ true → (leb (columns g) 30 && leb (rows g) 990) ≡ false
-      go true b x y z = rw (lt-leb (columns g) 30 (ltb-true 30 (columns g) x))
-      go false true x y z = rw (le-leb (columns g) 30 (ltb-false 30 (columns g) x), lt-leb (rows g) 990 (ltb-true 990 (rows g) y))
+      go : (a b : Bool) → ltb maxTileColumns (columns g) ≡ a → ltb maxTiles (rows g) ≡ b → (a || b) ≡ true → (leb (columns g) maxTileColumns && leb (rows g) maxTiles) ≡ false
+      go true b x y z = rw (lt-leb (columns g) maxTileColumns (ltb-true maxTileColumns (columns g) x))
+      go false true x y z = rw (le-leb (columns g) maxTileColumns (ltb-false maxTileColumns (columns g) x), lt-leb (rows g) maxTiles (ltb-true maxTiles (rows g) y))
       go false false x y z = absurd (let w : _≡_ {A = ℕ} 0 1 = cc in omega arith)
 
-  pub within-both : (ltb 30 (columns g) || ltb 990 (rows g)) ≡ false → (columns g ≤ 30) × (rows g ≤ 990)
-  within-both h = go (ltb 30 (columns g)) (ltb 990 (rows g)) refl refl h
-    where
-      go : (a b : Bool) → ltb 30 (columns g) ≡ a → ltb 990 (rows g) ≡ b → (a || b) ≡ false → (columns g ≤ 30) × (rows g ≤ 990)
-      go true b x y z = absurd (let w : _≡_ {A = ℕ} 0 1 = cc in omega arith)
-      go false true x y z = absurd (let w : _≡_ {A = ℕ} 0 1 = cc in omega arith)
-      go false false x y z = (ltb-false 30 (columns g) x, ltb-false 990 (rows g) y)
-
-  module _ (limits : (columns g ≤ 30) × (rows g ≤ 990)) where
+  module _ (limits : (columns g ≤ maxTileColumns) × (rows g ≤ maxTiles)) where
     within : slicedWithin g p t ≡ slicedIn g p t
     unfolding slicedWithin withinLimits
-    within = rw (le-leb (columns g) 30 (limits .0), le-leb (rows g) 990 (limits .1))
+    within = rw (le-leb (columns g) maxTileColumns (limits .0), le-leb (rows g) maxTiles (limits .1))
 
     pub stopped-before : (r : ℕ) → r ≡ numberOf (firstBad checks) → (r ≡ 0 → ⊥) → r ≡ declinedWith (slicedWithin g p t)
     unfolding slicedIn unless declinedWith

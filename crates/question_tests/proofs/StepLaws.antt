@@ -2,17 +2,18 @@
 use mathlib.Core.Path.{_≡_, refl, sym, ap, subst, _∙_}
 use mathlib.Core.List.{List, [], _∷_, _++_}
 use mathlib.Core.Bool.{Bool, true, false, cond, _&&_}
-use Prim.Native.Nat.{ℕ, suc, _+_, _-_, _*_, _≤_, _<_, min}
+use Prim.Native.Nat.{ℕ, suc, _+_, _*_, _≤_, min}
 use native.Mathlib.Omega.{arith}
 use lib.Dec.{ltb, leb, eqb, lit<}
 use borrow.Author.Tests.{ltb-true, ltb-false, le-leb, lt-leb}
 use Rattle.partition.specs.Checks.{Check, firstBad, numberOf, AllPass, passes, pass-right, Numbered, zero-fine}
 use Rattle.partition.specs.Entry.{Entry, Position, asking, splitCoded, lastSliceOf, nextPosition, sizeChecks, inheritedChecks, splitChecks, moveChecks, entryChecks}
+use Rattle.partition.specs.Grid.{maxSlicesMinus1}
 use Rattle.partition.specs.Sizes.{sum, explicitSizes}
+use Rattle.pps_tables.specs.declared.RectSliceEntry.{RectSliceEntry}
 use Rattle.slice_loop.specs.declared.TileIdx.{TileIdx}
 use Rattle.slice_loop.specs.declared.SliceIdx.{SliceIdx}
 use Rattle.tile_sizes.specs.Answers.{slicesInTile}
-use Rattle.question_tests.specs.declared.entries.EntryAt.{EntryAt}
 use Rattle.question_tests.specs.Tables.{entryWith}
 use Rattle.question_tests.specs.Steps.{position, movedTo, Stepped}
 use Rattle.question_tests.specs.Walking.{tile-after}
@@ -49,7 +50,7 @@ unfolding AllPass firstBad numberOf
 zero-number [] ds a = refl
 zero-number (c ∷ cs) ds a = rw (a .0) (zero-number cs ds (a .1))
 
-module _ (C R row : ℕ) (d : Bool) (N i t p : ℕ) (e : EntryAt) (hs : List ℕ) (small : R * C ≤ 4294967295) (few : N ≤ 999) (split : Bool) (n : ℕ) (sp : split ≡ splitCoded (e .width) (e .height) row)
+module _ (C R row : ℕ) (d : Bool) (N i t p : ℕ) (e : RectSliceEntry) (hs : List ℕ) (small : R * C ≤ 4294967295) (few : N ≤ maxSlicesMinus1) (split : Bool) (n : ℕ) (sp : split ≡ splitCoded (e .width) (e .height) row)
     (ns : n ≡ cond split (slicesInTile hs row .«num_slices») 1) (b : SliceIdx) (bs : b .0 ≡ min 4294967295 (i + n)) where
   abbrev entry : Entry
   entry = entryWith e hs

@@ -5,23 +5,23 @@ use mathlib.Core.List.{List, [], _∷_}
 use mathlib.Core.Bool.{Bool}
 use native.Mathlib.Nat.{mul-le-mul-left}
 use native.Mathlib.Omega.{arith}
-use lib.IntN.{ℤ}
 use lib.Dec.{lit<}
 use lib.ListN.{length, take, drop}
 use borrow.Author.Tests.{lt-ltb, le-ltb}
 use Rattle.partition.specs.Checks.{fine, firstBad, numberOf, number-refused, Numbered, zero-fine}
 use Rattle.partition.specs.Entry.{Entry, Position, asking, firstPosition, sizeChecks, inheritedChecks, splitChecks, moveChecks, entryChecks}
-use Rattle.partition.specs.Grid.{Grid, columns, rows}
+use Rattle.partition.specs.Grid.{Grid, columns, rows, maxTileColumns, maxTiles}
 use Rattle.partition.specs.Groups.{Group}
 use Rattle.partition.specs.Walk.{Walked, refused, placed, after, rowHeightOf, checksAt, onward, entryGroup, walk}
-use Rattle.pps_syntax.specs.SliceTables.{SliceTables, sliceTables, splitCount, slicesFrom}
+use Rattle.pps_syntax.specs.SliceTables.{SliceTables, splitCount, slicesFrom}
 use Rattle.pps_syntax.specs.WalkRefusal.{walkRefusal}
-use Rattle.question_tests.specs.declared.entries.EntryAt.{EntryAt}
+use Rattle.pps_lent.specs.Tables.{splitTables}
+use Rattle.pps_tables.specs.declared.RectSliceEntry.{RectSliceEntry}
 use Rattle.question_tests.specs.declared.entry.EntryStep.{EntryStep}
 use Rattle.question_tests.specs.Questions.{entriesIn}
 use Rattle.question_tests.specs.Steps.{position, Stepped}
 use Rattle.question_tests.specs.Tables.{entryAt, entryWith}
-use Rattle.question_tests.specs.Walking.{entriesFrom, first-entry, StandsAt, stands-first, stands-here, stands-after}
+use Rattle.question_tests.specs.Walking.{entriesFrom, first-entry, place-behind, StandsAt, stands-first, stands-here, stands-after}
 
 -- every number of an entry's checks is above 0
 pub numbered-entry : (C R row : ℕ) (d : Bool) (N : ℕ) (k : Position) (e : Entry) → Numbered (entryChecks asking C R row d N k e)
@@ -92,12 +92,16 @@ module _ {g : Grid} {d : Bool} {N : ℕ} {t : SliceTables} {n slice tile precedi
   pub refusing-ends : n ≤ i → N ≤ slice → 0 ≡ all
   refusing-ends h l = sym (H .is ∙ rw (none-left h) (walk-done g d N (H .at) (omega (arith, H .stands .sliceIs))))
 
-  module _ (more : i < n) (e : EntryAt) (to : ℕ) (e-is : e ≡ entryAt t i) (to-is : to ≡ min (length (t .splitHeights)) (from + e .«split_count»)) where
+  module _ (more : i < n) (e : RectSliceEntry) (splits to : ℕ) (e-is : e ≡ entryAt t i) (splits-is : splits ≡ splitCount (splitTables (t .entries)) i)
+      (to-is : to ≡ min (length (t .splitHeights)) (from + splits)) where
     abbrev hs : List ℕ
     hs = take (to - from) (drop from (t .splitHeights))
 
+    behind : to ≡ min (length (t .splitHeights)) (from + splitCount t i)
+    behind = place-behind t i from to splits splits-is to-is
+
     next : entriesFrom t i (H .place) (n - i) ≡ entryWith e hs ∷ entriesFrom t (i + 1) (H .place + splitCount t i) (n - (i + 1))
-    next = first-entry t i (H .place) n from to more (H .stands .placeIs) (to-is ∙ rw e-is) ∙ rw e-is
+    next = first-entry t i (H .place) n from to more (H .stands .placeIs) behind ∙ rw e-is
 
     pub refusing-late : N ≤ slice → 26 ≡ all
     refusing-late l = sym (H .is ∙ rw next (walk-late g d N (H .at) (entryWith e hs) _ (omega (arith, H .stands .sliceIs))))
@@ -113,12 +117,11 @@ module _ {g : Grid} {d : Bool} {N : ℕ} {t : SliceTables} {n slice tile precedi
       refusing-stops z = sym (H .is ∙ rw next (walk-stops g d N (H .at) (entryWith e hs) _ (omega (arith, H .stands .sliceIs)) (r .refused) number z))
 
       pub refusing-goes-on : r .refused ≡ 0 → Refusing g d N t n (r .slice .0) (r .tile .0) (e .height) (i + 1) to
-      unfolding entryAt
       refusing-goes-on z =
           record {
             at = onward g d (H .at) (entryWith e hs);
             place = H .place + splitCount t i;
-            stands = stands-after (H .stands) g d e hs (splitCount t i) (r .slice .0) (r .tile .0) to (omega arith) (S .sliceIs z) (S .tileIs z) (to-is ∙ rw e-is);
+            stands = stands-after (H .stands) g d e hs (splitCount t i) (r .slice .0) (r .tile .0) to (omega arith) (S .sliceIs z) (S .tileIs z) behind;
             within = omega arith;
             is =
                 H .is
@@ -136,10 +139,5 @@ module _ {g : Grid} {d : Bool} {N : ℕ} {t : SliceTables} {n slice tile precedi
 pub part-ends : (l c from to : ℕ) → to ≡ min l (from + c) → to ≤ l
 part-ends l c from to e = omega arith
 
-pub tiles-few : (C R : ℕ) → C ≤ 30 → R ≤ 990 → R * C ≤ 4294967295
-tiles-few C R a b = let h : R * C ≤ R * 30 = mul-le-mul-left R a in omega arith
-
--- an entry without its heights is the same whatever they are
-pub entry-same : (ws hs sp sc dp : List ℕ) (ds : List ℤ) (sh : List ℕ) (i : ℕ) (e : EntryAt) → e ≡ entryAt (sliceTables ws hs sp sc dp ds []) i → e ≡ entryAt (sliceTables ws hs sp sc dp ds sh) i
-unfolding entryAt splitCount
-entry-same ws hs sp sc dp ds sh i e q = q
+pub tiles-few : (C R : ℕ) → C ≤ maxTileColumns → R ≤ maxTiles → R * C ≤ 4294967295
+tiles-few C R a b = let h : R * C ≤ R * maxTileColumns = mul-le-mul-left R a in omega arith

@@ -8,7 +8,7 @@ use lib.Dec.{eqb, leb, ltb, lit<}
 use borrow.Author.Tests.{ltb-false}
 use Rattle.partition.specs.Checks.{Check, refuse, Outcome, fine, refusedWith, firstBad, AllPass, passes, refused-not-fine, Numbered}
 use Rattle.partition.specs.Entry.{Entry, Position, asking, firstPosition}
-use Rattle.partition.specs.Grid.{Grid, tiles, columns, rows}
+use Rattle.partition.specs.Grid.{Grid, tiles, columns, rows, maxSlicesMinus1}
 use Rattle.partition.specs.Groups.{Group}
 use Rattle.partition.specs.Partition.{Layout, declined, unsliced, sliced, fromWalk, unless}
 use Rattle.partition.specs.Walk.{Walked, refused, placed, after, rowHeightOf, checksAt, onward, entryGroup, lastGroup, walk}
@@ -95,7 +95,7 @@ module _ (g : Grid) (p : VvcPpsPartition) (t : SliceTables) where
   unfolding slicingChecks
   numbered-checks = go (coded (p .«pps_rect_slice_flag») (p .«pps_single_slice_per_subpic_flag»))
     where
-      go : (on : Bool) → Numbered (refuse 26 (leb (tiles g) 1 && not (isSet (p .«pps_rect_slice_flag»))) ∷ cond on (refuse 14 (ltb 999 (p .«pps_num_slices_in_pic_minus1»)) ∷ refuse 26 (isSet (p .«pps_tile_idx_delta_present_flag») && ltb (p .«pps_num_slices_in_pic_minus1») 2) ∷ []) (refuse 26 (not (eqb (p .«num_rect_slices») 0)) ∷ []))
+      go : (on : Bool) → Numbered (refuse 26 (leb (tiles g) 1 && not (isSet (p .«pps_rect_slice_flag»))) ∷ cond on (refuse 14 (ltb maxSlicesMinus1 (p .«pps_num_slices_in_pic_minus1»)) ∷ refuse 26 (isSet (p .«pps_tile_idx_delta_present_flag») && ltb (p .«pps_num_slices_in_pic_minus1») 2) ∷ []) (refuse 26 (not (eqb (p .«num_rect_slices») 0)) ∷ []))
       go on = numbered-tail on _ _ _ _
 
   abbrev pub walked : Walked
@@ -107,11 +107,11 @@ module _ (g : Grid) (p : VvcPpsPartition) (t : SliceTables) where
   -- What is accepted: slices are not coded, or the walk has placed them; N is then within its limit.
   pub data Slicing : Type 0 where
     without-slices : isCoded ≡ false → slicedIn g p t ≡ unsliced g → Slicing
-    with-slices : isCoded ≡ true → p .«pps_num_slices_in_pic_minus1» ≤ 999 → (ps : List Group) → walked ≡ placed ps → slicedIn g p t ≡ sliced g ps → Slicing
+    with-slices : isCoded ≡ true → p .«pps_num_slices_in_pic_minus1» ≤ maxSlicesMinus1 → (ps : List Group) → walked ≡ placed ps → slicedIn g p t ≡ sliced g ps → Slicing
 
-  few-slices : isCoded ≡ true → firstBad checks ≡ fine → p .«pps_num_slices_in_pic_minus1» ≤ 999
+  few-slices : isCoded ≡ true → firstBad checks ≡ fine → p .«pps_num_slices_in_pic_minus1» ≤ maxSlicesMinus1
   unfolding slicingChecks AllPass
-  few-slices on e = ltb-false 999 (p .«pps_num_slices_in_pic_minus1») ((rw on at (passes checks e .1)) .0)
+  few-slices on e = ltb-false maxSlicesMinus1 (p .«pps_num_slices_in_pic_minus1») ((rw on at (passes checks e .1)) .0)
 
   pub slicing-accepted : 0 ≡ declinedWith (slicedIn g p t) → Slicing
   unfolding slicedIn unless fromWalk

@@ -4,15 +4,17 @@ use mathlib.Core.Path.{_≡_}
 use mathlib.Core.List.{List}
 use mathlib.Core.Bool.{Bool, cond, _&&_}
 use lib.Dec.{leb}
+use denote.Ref.{now}
 use Rattle.partition.specs.Checks.{firstBad, numberOf}
 use Rattle.partition.specs.Entry.{Entry, Position, asking, defaultAdvance, entryChecks, nextPosition}
 use Rattle.partition.specs.Grid.{Grid, columns, rows, maxTileColumns, maxTiles}
 use Rattle.partition.specs.Partition.{Layout, declined}
 use Rattle.pps_record.specs.declared.VvcPpsPartition.{VvcPpsPartition}
 use Rattle.pps_syntax.specs.SliceTables.{SliceTables}
+use Rattle.pps_tables.specs.declared.RectSliceEntry.{RectSliceEntry}
+use Rattle.pps_tables.specs.Parameters.{Numbers}
 use Rattle.slice_loop.specs.declared.TileIdx.{TileIdx}
 use Rattle.slice_loop.specs.Answers.{tileIdx, nextByDelta}
-use Rattle.question_tests.specs.declared.entries.EntryAt.{EntryAt}
 use Rattle.question_tests.specs.declared.entry.EntryStep.{EntryStep}
 use Rattle.question_tests.specs.Questions.{slicedIn}
 
@@ -21,6 +23,10 @@ position slice tile preceding = record { slice = slice; tile = tile; precedingHe
 
 abbrev pub gridFrom : List ℕ → List ℕ → Grid
 gridFrom ws hs = record { columnWidths = ws; rowHeights = hs }
+
+-- the columns and rows lent to a function
+abbrev pub gridBefore : Numbers → Numbers → Grid
+gridBefore columns rows = gridFrom (now (columns .entry)) (now (rows .entry))
 
 -- Columns and rows are in their tables.
 unfoldable pub withinLimits : Grid → Bool
@@ -31,7 +37,7 @@ unfoldable pub slicedWithin : Grid → VvcPpsPartition → SliceTables → Layou
 slicedWithin g p t = cond (withinLimits g) (slicedIn g p t) (declined 13)
 
 -- The next slice's tile, as far as it is one.
-unfoldable pub movedTo : ℕ → ℕ → Bool → ℕ → EntryAt → TileIdx
+unfoldable pub movedTo : ℕ → ℕ → Bool → ℕ → RectSliceEntry → TileIdx
 movedTo columns tiles deltas t e = cond deltas (nextByDelta tiles t (e .delta) .«tile_idx») (tileIdx (defaultAdvance columns t (e .width) (e .height)))
 
 -- A step over an entry: its refusal, or where the next one stands; the tile counts while there are slices to come.

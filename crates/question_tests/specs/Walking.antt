@@ -14,8 +14,11 @@ use Rattle.partition.specs.Grid.{Grid, columns}
 use Rattle.partition.specs.Walk.{rowHeightOf, onward}
 use Rattle.pps_syntax.specs.SliceSyntax.{entryOf}
 use Rattle.pps_syntax.specs.SliceTables.{SliceTables, splitCount, sliceAt, slicesFrom}
+use Rattle.pps_lent.specs.Tables.{splitTables, same-count}
+use Rattle.pps_tables.specs.declared.RectSliceEntry.{RectSliceEntry}
+use Rattle.pps_tables.specs.Rows.{entryOf as fieldsOf}
+use Rattle.syntax.specs.Elements.{isSet}
 use Rattle.slice_loop.specs.Laws.{held-tile, delta-tile}
-use Rattle.question_tests.specs.declared.entries.EntryAt.{EntryAt}
 use Rattle.question_tests.specs.Steps.{position, movedTo}
 use Rattle.question_tests.specs.Tables.{entryAt, entryWith}
 
@@ -47,12 +50,17 @@ module _ (t : SliceTables) where
   entriesFrom i j n = map entryOf (slicesFrom t i j n)
 
   -- the first of them, its heights in a part of their table
-  pub first-entry : (i j n from to : ℕ) → i < n → from ≡ min (length (t .splitHeights)) j → to ≡ min (length (t .splitHeights)) (from + entryAt t i .«split_count»)
+  pub first-entry : (i j n from to : ℕ) → i < n → from ≡ min (length (t .splitHeights)) j → to ≡ min (length (t .splitHeights)) (from + splitCount t i)
       → entriesFrom i j (n - i) ≡ entryWith (entryAt t i) (take (to - from) (drop from (t .splitHeights))) ∷ entriesFrom (i + 1) (j + splitCount t i) (n - (i + 1))
-  unfolding slicesFrom sliceAt entryAt
+  unfolding slicesFrom sliceAt fieldsOf
   first-entry i j n from to h p q =
       let z : n - i ≡ suc (n - (i + 1)) = omega arith in
       rw (z, heights-held (t .splitHeights) (splitCount t i) j from to p q)
+
+-- the place behind an entry's heights, by its count
+pub place-behind : (t : SliceTables) (i from to splits : ℕ) → splits ≡ splitCount (splitTables (t .entries)) i → to ≡ min (length (t .splitHeights)) (from + splits)
+    → to ≡ min (length (t .splitHeights)) (from + splitCount t i)
+place-behind t i from to splits e q = q ∙ rw (e, same-count t i)
 
 -- ---- where the loop stands
 
@@ -74,7 +82,7 @@ module _ {N : ℕ} {t : SliceTables} {at : Position} {j slice tile preceding fro
   stands-here l = positions (S .sliceIs) (S .tileIs l) (S .precedes)
 
   -- after an entry whose step was right
-  pub stands-after : (g : Grid) (d : Bool) (e : EntryAt) (hs : List ℕ) (c slice′ tile′ to : ℕ) → slice ≤ N
+  pub stands-after : (g : Grid) (d : Bool) (e : RectSliceEntry) (hs : List ℕ) (c slice′ tile′ to : ℕ) → slice ≤ N
       → slice′ ≡ nextPosition (columns g) d (rowHeightOf g tile) (position slice tile preceding) (entryWith e hs) .slice
       → (slice′ ≤ N → tile′ ≡ nextPosition (columns g) d (rowHeightOf g tile) (position slice tile preceding) (entryWith e hs) .tile)
       → to ≡ min (length (t .splitHeights)) (from + c)
@@ -91,9 +99,9 @@ module _ {N : ℕ} {t : SliceTables} {at : Position} {j slice tile preceding fro
 -- ---- the next tile
 
 -- where the way to it passed and slices are to come
-pub tile-after : (C T : ℕ) (d : Bool) (t : ℕ) (e : EntryAt) (hs : List ℕ) → T ≤ 4294967295 → AllPass (moveChecks C T d true t (entryWith e hs)) → movedTo C T d t e .0 ≡ nextTile C d t (entryWith e hs)
+pub tile-after : (C T : ℕ) (d : Bool) (t : ℕ) (e : RectSliceEntry) (hs : List ℕ) → T ≤ 4294967295 → AllPass (moveChecks C T d true t (entryWith e hs)) → movedTo C T d t e .0 ≡ nextTile C d t (entryWith e hs)
 unfolding moveChecks AllPass movedTo nextTile
-tile-after C T true t e hs small a = delta-tile T t (e .delta) small (present (e .«delta_present») (a .0) (deltaRefused T t (e .delta)) (a .1 .1 .0))
+tile-after C T true t e hs small a = delta-tile T t (e .delta) small (present (isSet (e .«delta_present»)) (a .0) (deltaRefused T t (e .delta)) (a .1 .1 .0))
   where
     present : (b : Bool) → not (Bool·beq b true) ≡ false → (r : Bool) → (b && r) ≡ false → r ≡ false
     present true p r q = q

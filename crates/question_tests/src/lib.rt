@@ -1,8 +1,8 @@
 // What the grid, plan and cover questions test in a record with its lent tables (docs/BEHAVIOUR.md).
 
-pub mod entries;
 mod entry;
 pub mod record;
 pub mod slicing;
 mod tested;
+pub mod tiles;
 mod walk;

@@ -1,14 +1,15 @@
-// The tests before the partition's own: tables and counts, the picture's size, flags, and whether the partition is rightly present.
+// The tests before the partition's own: tables and counts, the picture's size, flags, and whether the partition is
+// rightly present.
 ghost use mathlib.Core.Path.{_≡_};
 ghost use Rattle.partition.specs.Checks.{firstBad, numberOf};
-ghost use Rattle.pps_syntax.specs.SliceTables.{sliceTables};
+ghost use Rattle.pps_tables.specs.Parameters.{before};
 ghost use Rattle.question_tests.specs.Questions.{flagOver1, recordChecks};
-ghost use Rattle.question_tests.specs.Tables.{lent};
 use super::tested::same;
 use super::tested::tested;
 use pps_lent::lent_fits;
 use pps_record::VvcPps;
 use pps_record::VvcPpsPartition;
+use pps_tables::ENTRY_LEN;
 
 fn flag_over_1(p: VvcPpsPartition) -> bool
     ensures { λ r. ⌜ r ≡ flagOver1 p ⌝ }
@@ -26,27 +27,19 @@ pub fn record_refusal(
     subpic_ids: &[u32],
     tile_column_widths: &[u32],
     tile_row_heights: &[u32],
-    widths: &[u32],
-    heights: &[u32],
-    split_present: &[u8],
-    split_counts: &[u32],
-    delta_present: &[u8],
-    deltas: &[i32],
+    entries: &[[u32; ENTRY_LEN]],
     split_heights: &[u32],
 ) -> u8
-    ensures { λ r. ⌜ r ≡ numberOf (firstBad (recordChecks pps (lent (now («subpic_ids» .entry)) (now («tile_column_widths» .entry)) (now («tile_row_heights» .entry)) (sliceTables (now (widths .entry)) (now (heights .entry)) (now («split_present» .entry)) (now («split_counts» .entry)) (now («delta_present» .entry)) (now (deltas .entry)) (now («split_heights» .entry)))))) ⌝ }
+    ensures { λ r.
+        let t = before «subpic_ids» «tile_column_widths» «tile_row_heights» entries «split_heights» in
+        ⌜ r ≡ numberOf (firstBad (recordChecks pps t)) ⌝ }
 {
     let fit = lent_fits(
         pps,
         subpic_ids,
         tile_column_widths,
         tile_row_heights,
-        widths,
-        heights,
-        split_present,
-        split_counts,
-        delta_present,
-        deltas,
+        entries,
         split_heights,
     );
     let p = pps.partition;

@@ -3,14 +3,17 @@ ghost use mathlib.Core.Path.{_≡_};
 ghost use Prim.Native.Nat.{_≤_, _<_};
 ghost use lib.ListN.{length};
 ghost use Rattle.partition.specs.Entry.{asking, firstPosition};
+ghost use Rattle.partition.specs.Grid.{maxTileColumns, maxTiles, maxSlicesMinus1};
 ghost use Rattle.partition.specs.Walk.{walk};
-ghost use Rattle.pps_syntax.specs.SliceTables.{sliceTables};
 ghost use Rattle.pps_syntax.specs.WalkRefusal.{walkRefusal};
+ghost use Rattle.pps_tables.specs.Parameters.{slicesBefore};
 ghost use Rattle.question_tests.specs.Questions.{entriesIn};
-ghost use Rattle.question_tests.specs.Steps.{gridFrom};
-use super::entries::entry_at;
-use super::entries::place_after;
+ghost use Rattle.question_tests.specs.Steps.{gridBefore};
 use super::entry::entry_step;
+use pps_lent::place_after;
+use pps_lent::split_count;
+use pps_tables::ENTRY_LEN;
+use pps_tables::entry_at;
 use slice_loop::SliceIdx;
 use slice_loop::SliceLoopCtx;
 use slice_loop::TileIdx;
@@ -22,16 +25,15 @@ pub fn walk_refusal(
     deltas_on: bool,
     n: SliceIdx,
     count: u32,
-    widths: &[u32],
-    heights: &[u32],
-    split_present: &[u8],
-    split_counts: &[u32],
-    delta_present: &[u8],
-    deltas: &[i32],
+    entries: &[[u32; ENTRY_LEN]],
     split_heights: &[u32],
 ) -> u8
-    requires { ⌜ (length (now «column_widths») ≤ 30) × (length (now «row_heights») ≤ 990) × (n .0 ≤ 999) ⌝ }
-    ensures { λ r. ⌜ r ≡ walkRefusal (walk asking (gridFrom (now («column_widths» .entry)) (now («row_heights» .entry))) «deltas_on» (n .0) firstPosition (entriesIn (sliceTables (now (widths .entry)) (now (heights .entry)) (now («split_present» .entry)) (now («split_counts» .entry)) (now («delta_present» .entry)) (now (deltas .entry)) (now («split_heights» .entry))) count)) ⌝ }
+    requires { ⌜ (length (now «column_widths») ≤ maxTileColumns) × (length (now «row_heights») ≤ maxTiles)
+        × (n .0 ≤ maxSlicesMinus1) ⌝ }
+    ensures { λ r.
+        let g = gridBefore «column_widths» «row_heights» in
+        let es = entriesIn (slicesBefore entries «split_heights») count in
+        ⌜ r ≡ walkRefusal (walk asking g «deltas_on» (n .0) firstPosition es) ⌝ }
 {
     let ctx = SliceLoopCtx {
         num_tile_columns: column_widths.len() as u32,
@@ -48,16 +50,9 @@ pub fn walk_refusal(
         if slice.0 >= n.0 {
             return 26;
         }
-        let e = entry_at(
-            widths,
-            heights,
-            split_present,
-            split_counts,
-            delta_present,
-            deltas,
-            i,
-        );
-        let to = place_after(split_heights.len(), from, e.split_count);
+        let e = entry_at(entries, i);
+        let splits = split_count(entries, i);
+        let to = place_after(split_heights.len(), from, splits);
         let step = entry_step(
             ctx,
             row_heights,

@@ -9,21 +9,24 @@ use lib.ListN.{length, getD, set, take, drop, replicate, length-append}
 use borrow.Author.Tests.{ltb-false}
 use Rattle.partition.specs.Axis.{boundary, boundary-suc, boundary-mono, boundary-le, span}
 use Rattle.partition.specs.Entry.{Entry, Position, asking, firstPosition, tileX, tileY, splitCoded, splitHeights, lastSliceOf, nextTile, nextPosition}
-use Rattle.partition.specs.Grid.{Grid, columns, rows, tiles}
+use Rattle.partition.specs.Grid.{Grid, columns, rows, tiles, maxSlicesMinus1, maxSlices}
 use Rattle.partition.specs.Groups.{Group, stacked, groupSlices, plan, stacked-length}
 use Rattle.partition.specs.Placed.{Step, step, End, to-bottom-right, used-by-split, end, Passed, entry-passed, tileX-lt, tileY-lt, split-flat, row-span, entry-slices, some-piece, walk-slices, placed-same}
 use Rattle.partition.specs.Sizes.{sum, explicitSizes, Fit}
 use Rattle.partition.specs.Slices.{Slice}
 use Rattle.partition.specs.Walk.{rowHeightOf, sliceHeightsOf, entryGroup, lastGroup, placed, onward, walk}
 use Rattle.pps_syntax.specs.SliceTables.{SliceTables, splitCount}
-use Rattle.question_tests.specs.declared.entries.EntryAt.{EntryAt}
+use Rattle.pps_lent.specs.Tables.{splitTables}
+use Rattle.pps_tables.specs.declared.RectSliceEntry.{RectSliceEntry}
+use Rattle.pps_tables.specs.Rows.{entryOf}
 use Rattle.question_tests.specs.Questions.{entriesIn}
 use Rattle.question_tests.specs.Refusing.{no-entries}
 use Rattle.question_tests.specs.Steps.{position, gridFrom, movedTo}
 use Rattle.question_tests.specs.Tables.{entryAt, entryWith}
-use Rattle.question_tests.specs.Walking.{entriesFrom, first-entry, StandsAt, stands-first, stands-here, stands-after, tile-after}
+use Rattle.question_tests.specs.Walking.{entriesFrom, first-entry, place-behind, StandsAt, stands-first, stands-here, stands-after, tile-after}
+use Rattle.syntax.specs.Elements.{isSet}
 use Rattle.tile_sizes.specs.Padded.{zeros, tableOf, filled-places}
-use Rattle.slice_plan.specs.Plans.{maxSlices, placedOf}
+use Rattle.slice_plan.specs.Plans.{placedOf}
 use Rattle.slice_plan.specs.Stacking.{PlanTables, planTables, putPlan, put-one, put-none, put-both, kept-lengths, tables-are}
 use Rattle.slice_plan.specs.Starts.{StartsAt}
 
@@ -55,9 +58,9 @@ module _ {ws hs cs rs : List ℕ} (C : StartsAt ws cs) (R : StartsAt hs rs) (x y
         ap (boundary hs) e,
       )
 
-  pub group-fits : 1 ≤ h → Fit es (span hs y h) → slice + length (splitHeights es (span hs y h)) ≤ 1000
+  pub group-fits : 1 ≤ h → Fit es (span hs y h) → slice + length (splitHeights es (span hs y h)) ≤ maxSlices
       → (x + w < length cs) × (y + h < length rs) × (getD cs x 0 ≤ getD cs (x + w) 0) × (getD rs y 0 < getD rs (y + h) 0) × Fit es (getD rs (y + h) 0 - getD rs y 0)
-      × (slice + length (splitHeights es (getD rs (y + h) 0 - getD rs y 0)) ≤ 1000) × (x + w ≤ 4294967295) × (y + h ≤ 4294967295) × (getD rs (y + h) 0 ≤ 4294967295)
+      × (slice + length (splitHeights es (getD rs (y + h) 0 - getD rs y 0)) ≤ maxSlices) × (x + w ≤ 4294967295) × (y + h ≤ 4294967295) × (getD rs (y + h) 0 ≤ 4294967295)
   group-fits s f l = (
     omega (arith, C .long, C .few),
     omega (arith, R .long, R .few),
@@ -154,7 +157,8 @@ module _ {ws hs : List ℕ} {d : Bool} {N : ℕ} {t : SliceTables} {n : ℕ} {P�
   pub part-starts : (c to : ℕ) → to ≡ min (length (t .splitHeights)) (from + c) → from ≤ to
   part-starts c to e = omega (arith, H .stands .placeIs)
 
-  module _ (more : i < n) (e : EntryAt) (to : ℕ) (e-is : e ≡ entryAt t i) (to-is : to ≡ min (length (t .splitHeights)) (from + e .«split_count»)) where
+  module _ (more : i < n) (e : RectSliceEntry) (splits to : ℕ) (e-is : e ≡ entryAt t i) (splits-is : splits ≡ splitCount (splitTables (t .entries)) i)
+      (to-is : to ≡ min (length (t .splitHeights)) (from + splits)) where
     abbrev es : List ℕ
     es = take (to - from) (drop from (t .splitHeights))
 
@@ -164,8 +168,11 @@ module _ {ws hs : List ℕ} {d : Bool} {N : ℕ} {t : SliceTables} {n : ℕ} {P�
     abbrev later : List Entry
     later = entriesFrom t (i + 1) (H .place + splitCount t i) (n - (i + 1))
 
+    to-place : to ≡ min (length (t .splitHeights)) (from + splitCount t i)
+    to-place = place-behind t i from to splits splits-is to-is
+
     next : entriesFrom t i (H .place) (n - i) ≡ entry ∷ later
-    next = first-entry t i (H .place) n from to more (H .stands .placeIs) (to-is ∙ rw e-is) ∙ rw e-is
+    next = first-entry t i (H .place) n from to more (H .stands .placeIs) to-place ∙ rw e-is
 
     turn : Step asking g d N (H .at) entry later (H .rest)
     turn = step asking g d N (H .at) entry later (H .rest) (sym (ap (walk asking g d N (H .at)) next) ∙ H .walks)
@@ -189,11 +196,11 @@ module _ {ws hs : List ℕ} {d : Bool} {N : ℕ} {t : SliceTables} {n : ℕ} {P�
     placing-tall = omega (arith, passed .tall, tileY-lt g tile on-tile)
 
     -- without a split there are no heights
-    count-none : e .«split_present» ≡ false → e .«split_count» ≡ 0
-    unfolding entryAt splitCount
-    count-none z = let q : entryAt t i .«split_present» ≡ false = ap (λ (x : EntryAt). x .«split_present») (sym e-is) ∙ z in ap (λ (x : EntryAt). x .«split_count») e-is ∙ rw q
+    count-none : isSet (e .«split_present») ≡ false → splits ≡ 0
+    unfolding entryOf splitCount
+    count-none z = let q : isSet (entryAt t i .«split_present») ≡ false = ap (λ (x : RectSliceEntry). isSet (x .«split_present»)) (sym e-is) ∙ z in splits-is ∙ rw q
 
-    heights-none : e .«split_present» ≡ false → es ≡ []
+    heights-none : isSet (e .«split_present») ≡ false → es ≡ []
     heights-none z =
         let c = count-none z in
         let k : to - from ≡ 0 = omega (arith, to-is) in
@@ -224,7 +231,7 @@ module _ {ws hs : List ℕ} {d : Bool} {N : ℕ} {t : SliceTables} {n : ℕ} {P�
         go : (b : Bool) → splitCoded (e .width) (e .height) row ≡ b
             → cond (splitCoded (e .width) (e .height) row) (splitHeights es row) (span hs (tileY (length ws) tile) (suc (e .height)) ∷ []) ≡ splitHeights es down-span
         go true z = rw z (ap (splitHeights es) (one-row z))
-        go false z = let f : suc (e .height) ≡ e .height + 1 = omega arith in rw (z, f) (lone (heights-none (absent (e .«split_present») (rw z at (passed .agrees)))))
+        go false z = let f : suc (e .height) ≡ e .height + 1 = omega arith in rw (z, f) (lone (heights-none (absent (isSet (e .«split_present»)) (rw z at (passed .agrees)))))
 
     heights-fit : Fit es down-span
     unfolding sum explicitSizes
@@ -232,7 +239,7 @@ module _ {ws hs : List ℕ} {d : Bool} {N : ℕ} {t : SliceTables} {n : ℕ} {P�
       where
         go : (b : Bool) → splitCoded (e .width) (e .height) row ≡ b → sum (explicitSizes es) ≤ down-span
         go true z = omega (arith, ltb-false row (sum (explicitSizes es)) (rw z at (passed .cut)), one-row z)
-        go false z = rw (heights-none (absent (e .«split_present») (rw z at (passed .agrees)))) (omega arith)
+        go false z = rw (heights-none (absent (isSet (e .«split_present»)) (rw z at (passed .agrees)))) (omega arith)
 
     abbrev slices : List Slice
     slices = stacked (boundary ws (tileX (length ws) tile)) (span ws (tileX (length ws) tile) (e .width + 1)) (boundary hs (tileY (length ws) tile)) (splitHeights es down-span)
@@ -257,11 +264,11 @@ module _ {ws hs : List ℕ} {d : Bool} {N : ℕ} {t : SliceTables} {n : ℕ} {P�
     abbrev Fits : List ℕ → List ℕ → ℕ → ℕ → Type 0
     Fits cs rs x y =
         (x + (e .width + 1) < length cs) × (y + (e .height + 1) < length rs) × (getD cs x 0 ≤ getD cs (x + (e .width + 1)) 0) × (getD rs y 0 < getD rs (y + (e .height + 1)) 0)
-        × Fit es (getD rs (y + (e .height + 1)) 0 - getD rs y 0) × (slice + length (splitHeights es (getD rs (y + (e .height + 1)) 0 - getD rs y 0)) ≤ 1000) × (x + (e .width + 1) ≤ 4294967295)
+        × Fit es (getD rs (y + (e .height + 1)) 0 - getD rs y 0) × (slice + length (splitHeights es (getD rs (y + (e .height + 1)) 0 - getD rs y 0)) ≤ maxSlices) × (x + (e .width + 1) ≤ 4294967295)
         × (y + (e .height + 1) ≤ 4294967295) × (getD rs (y + (e .height + 1)) 0 ≤ 4294967295)
 
     module _ {cs rs : List ℕ} (C : StartsAt ws cs) (R : StartsAt hs rs) (x y : ℕ) (x-is : x ≡ tileX (length ws) tile) (y-is : y ≡ tileY (length ws) tile) where
-      pub placing-fits : N ≤ 999 → Fits cs rs x y
+      pub placing-fits : N ≤ maxSlicesMinus1 → Fits cs rs x y
       placing-fits few =
           rw (x-is, y-is)
           (group-fits C R (tileX (length ws) tile) (tileY (length ws) tile) (e .width + 1) (e .height + 1) slice es placing-wide placing-tall (omega arith) heights-fit (omega (arith, counted-on)))
@@ -311,14 +318,14 @@ module _ {ws hs : List ℕ} {d : Bool} {N : ℕ} {t : SliceTables} {n : ℕ} {P�
             ∙ (let k : slice + length slices ≡ slice′ = omega (arith, slices-count, count-is) in rw (k, ← plan-is))
 
         pub placing-goes-on : Placing ws hs d N t n P₀ G₀ P′ G′ slice′ tile′ (i + 1) to
-        unfolding nextPosition entryAt
+        unfolding nextPosition
         placing-goes-on =
             record {
               all = H .all;
               whole = H .whole;
               at = onward g d (H .at) entry;
               place = H .place + splitCount t i;
-              stands = stands-after (H .stands) g d e es (splitCount t i) slice′ tile′ to (omega (arith, lower)) index-is tile-next (to-is ∙ rw e-is);
+              stands = stands-after (H .stands) g d e es (splitCount t i) slice′ tile′ to (omega (arith, lower)) index-is tile-next to-place;
               within = omega arith;
               rest = turn .others;
               walks = turn .goes;
@@ -387,9 +394,9 @@ module _ {ws hs : List ℕ} {d : Bool} {N : ℕ} {t : SliceTables} {n : ℕ} {P�
       slice-last = omega (arith, H .counted, ap length bottom-is, bottom-count)
 
       module _ {cs rs : List ℕ} (SC : StartsAt ws cs) (SR : StartsAt hs rs) (x y w h : ℕ) (x-is : x ≡ X) (y-is : y ≡ Y) (w-is : w ≡ C - X) (h-is : h ≡ R - Y) (es : List ℕ) (es-is : es ≡ []) where
-        pub last-fits : N ≤ 999
+        pub last-fits : N ≤ maxSlicesMinus1
             → (x + w < length cs) × (y + h < length rs) × (getD cs x 0 ≤ getD cs (x + w) 0) × (getD rs y 0 < getD rs (y + h) 0) × Fit es (getD rs (y + h) 0 - getD rs y 0)
-            × (slice + length (splitHeights es (getD rs (y + h) 0 - getD rs y 0)) ≤ 1000) × (x + w ≤ 4294967295) × (y + h ≤ 4294967295) × (getD rs (y + h) 0 ≤ 4294967295)
+            × (slice + length (splitHeights es (getD rs (y + h) 0 - getD rs y 0)) ≤ maxSlices) × (x + w ≤ 4294967295) × (y + h ≤ 4294967295) × (getD rs (y + h) 0 ≤ 4294967295)
         unfolding sum explicitSizes
         last-fits few =
             rw (x-is, y-is, w-is, h-is, es-is)
@@ -488,7 +495,7 @@ groups-filled ps h =
     rects-length [] = refl
     rects-length (p ∷ ps) = ap suc (rects-length ps)
 
-module _ {ws hs : List ℕ} {d : Bool} {N : ℕ} {t : SliceTables} {n : ℕ} {P G : PlanTables} {slice groups : ℕ} (D : Done ws hs d N t n blank blank P G slice groups) (few : N ≤ 999) where
+module _ {ws hs : List ℕ} {d : Bool} {N : ℕ} {t : SliceTables} {n : ℕ} {P G : PlanTables} {slice groups : ℕ} (D : Done ws hs d N t n blank blank P G slice groups) (few : N ≤ maxSlicesMinus1) where
   module _ (ps : List Group) (q : walk asking (gridFrom ws hs) d N firstPosition (entriesIn t n) ≡ placed ps) where
     all-is : D .all ≡ ps
     all-is = placed-same (D .all) ps (sym (D .whole) ∙ q)

@@ -7,7 +7,7 @@ use native.Mathlib.Omega.{arith}
 use lib.Dec.{leb}
 use lib.ListN.{replicate}
 use borrow.Author.Tests.{leb-true, le-leb, lt-leb}
-use Rattle.partition.specs.Grid.{Grid, columns, rows, tiles}
+use Rattle.partition.specs.Grid.{Grid, columns, rows, tiles, maxTileColumns, maxTiles, maxSlicesMinus1, maxSlices}
 use Rattle.partition.specs.Groups.{Group, plan}
 use Rattle.partition.specs.Partition.{declined, unsliced, sliced}
 use Rattle.partition.specs.Walk.{placed}
@@ -20,23 +20,23 @@ use Rattle.question_tests.specs.Sliced.{Slicing, without-slices, with-slices, s
 use Rattle.question_tests.specs.Steps.{withinLimits, slicedWithin}
 use Rattle.tile_sizes.specs.Padded.{zeros, tableOf}
 use Rattle.slice_plan.specs.declared.Placed.{Placed}
-use Rattle.slice_plan.specs.Plans.{tilesWithin, properGrid, slicedProper, maxSlices, placedOf, placedIn}
+use Rattle.slice_plan.specs.Plans.{tilesWithin, properGrid, slicedProper, placedOf, placedIn}
 use Rattle.slice_plan.specs.Starts.{properSizes}
 
 -- ---- the tiles' limits
 
 module _ (c r : ℕ) where
-  pub columns-over : 30 < c → false ≡ tilesWithin c r
+  pub columns-over : maxTileColumns < c → false ≡ tilesWithin c r
   unfolding tilesWithin
-  columns-over h = rw (lt-leb c 30 h)
+  columns-over h = rw (lt-leb c maxTileColumns h)
 
-  pub rows-over : c ≤ 30 → 990 < r → false ≡ tilesWithin c r
+  pub rows-over : c ≤ maxTileColumns → maxTiles < r → false ≡ tilesWithin c r
   unfolding tilesWithin
-  rows-over l h = rw (le-leb c 30 l, lt-leb r 990 h)
+  rows-over l h = rw (le-leb c maxTileColumns l, lt-leb r maxTiles h)
 
-  pub tiles-tested : c ≤ 30 → r ≤ 990 → (leb 1 (r * c) && leb (r * c) 990) ≡ tilesWithin c r
+  pub tiles-tested : c ≤ maxTileColumns → r ≤ maxTiles → (leb 1 (r * c) && leb (r * c) maxTiles) ≡ tilesWithin c r
   unfolding tilesWithin
-  tiles-tested l h = rw (le-leb c 30 l, le-leb r 990 h)
+  tiles-tested l h = rw (le-leb c maxTileColumns l, le-leb r maxTiles h)
 
 -- ---- a grid of a picture
 
@@ -51,10 +51,10 @@ proper-tested g a b c p q r = rw (p, q, r)
 pub record Proper (g : Grid) : Type 0 where
   pub columnSizes : properSizes (g .columnWidths) ≡ true
   pub rowSizes : properSizes (g .rowHeights) ≡ true
-  pub few-columns : columns g ≤ 30
-  pub few-rows : rows g ≤ 990
+  pub few-columns : columns g ≤ maxTileColumns
+  pub few-rows : rows g ≤ maxTiles
   pub some-tile : 1 ≤ tiles g
-  pub few-tiles : tiles g ≤ 990
+  pub few-tiles : tiles g ≤ maxTiles
 
 pub proper-grid : (g : Grid) → properGrid g ≡ true → Proper g
 unfolding properGrid tilesWithin
@@ -67,16 +67,16 @@ proper-grid g e =
     record {
       columnSizes = a .0;
       rowSizes = b .0;
-      few-columns = leb-true (columns g) 30 (c .0);
-      few-rows = leb-true (rows g) 990 (d .0);
+      few-columns = leb-true (columns g) maxTileColumns (c .0);
+      few-rows = leb-true (rows g) maxTiles (d .0);
       some-tile = leb-true 1 (tiles g) (f .0);
-      few-tiles = leb-true (tiles g) 990 (f .1);
+      few-tiles = leb-true (tiles g) maxTiles (f .1);
     }
 
 pub grid-proper : (g : Grid) → Proper g → properGrid g ≡ true
 unfolding properGrid tilesWithin
 grid-proper g p =
-    rw (p .columnSizes, p .rowSizes, le-leb (columns g) 30 (p .few-columns), le-leb (rows g) 990 (p .few-rows), le-leb 1 (tiles g) (p .some-tile), le-leb (tiles g) 990 (p .few-tiles))
+    rw (p .columnSizes, p .rowSizes, le-leb (columns g) maxTileColumns (p .few-columns), le-leb (rows g) maxTiles (p .few-rows), le-leb 1 (tiles g) (p .some-tile), le-leb (tiles g) maxTiles (p .few-tiles))
 
 -- ---- nothing placed
 
@@ -117,7 +117,7 @@ module _ (g : Grid) (p : VvcPpsPartition) (t : SliceTables) where
   module _ (ok : properGrid g ≡ true) where
     within : slicedWithin g p t ≡ slicedIn g p t
     unfolding slicedWithin withinLimits
-    within = let q = proper-grid g ok in rw (le-leb (columns g) 30 (q .few-columns), le-leb (rows g) 990 (q .few-rows))
+    within = let q = proper-grid g ok in rw (le-leb (columns g) maxTileColumns (q .few-columns), le-leb (rows g) maxTiles (q .few-rows))
 
     pub proper-is : slicedProper g p t ≡ slicedIn g p t
     unfolding slicedProper
@@ -139,7 +139,7 @@ module _ (g : Grid) (p : VvcPpsPartition) (t : SliceTables) where
 
       -- where slices are coded: so many, which the walk has placed
       pub record Walks : Type 0 where
-        pub few : p .«pps_num_slices_in_pic_minus1» ≤ 999
+        pub few : p .«pps_num_slices_in_pic_minus1» ≤ maxSlicesMinus1
         pub groups : List Group
         pub walks : walked g p t ≡ placed groups
         pub is : slicedProper g p t ≡ sliced g groups

@@ -4,7 +4,7 @@ use mathlib.Core.Bool.{Bool, true, false, cond, _&&_}
 use mathlib.Core.List.{List, [], map}
 use lib.Dec.{leb}
 use lib.ListN.{length}
-use Rattle.partition.specs.Grid.{Grid, columns, rows, maxTileColumns, maxTiles}
+use Rattle.partition.specs.Grid.{Grid, columns, rows, maxTileColumns, maxTiles, maxSlices}
 use Rattle.partition.specs.Groups.{Group, plan}
 use Rattle.partition.specs.Partition.{Layout, declined, unsliced, sliced}
 use Rattle.partition.specs.Slices.{Slice}
@@ -27,9 +27,6 @@ properGrid g = properSizes (g .columnWidths) && (properSizes (g .rowHeights) && 
 -- The layout of a partition in it; 13 in any other.
 unfoldable pub slicedProper : Grid → VvcPpsPartition → SliceTables → Layout
 slicedProper g p t = cond (properGrid g) (slicedIn g p t) (declined 13)
-
-abbrev pub maxSlices : ℕ
-maxSlices = 1000
 
 -- The slices of these groups by slice index, and the groups themselves, each in its tables.
 unfoldable pub placedOf : List Slice → List Group → Placed

@@ -4,12 +4,14 @@ use mathlib.Core.Path.{_≡_, refl, sym, ap, _∙_}
 use mathlib.Core.List.{List, [], _∷_, _++_, map}
 use native.Mathlib.Numerals.{add-one}
 use native.Mathlib.Omega.{arith}
+use denote.Ref.{now}
 use lib.ListN.{length, getD, set, drop}
 use lib.Seq.{sets, length-sets, drop-drop}
 use Rattle.partition.specs.Entry.{splitHeights}
 use Rattle.partition.specs.Groups.{stacked}
 use Rattle.partition.specs.Sizes.{sum, explicitSizes, uniformSize, axisSizes, Fit, uniform-pos}
 use Rattle.partition.specs.Slices.{Slice}
+use Rattle.pps_tables.specs.Parameters.{Numbers}
 use Rattle.tile_sizes.specs.Answers.{nextSize}
 use Rattle.tile_sizes.specs.Left.{sizesLeft, none-left, uniform-step, next-fits, next-left, end-left, last-is, last-fits}
 
@@ -21,6 +23,13 @@ pub record PlanTables : Type 0 where
 
 abbrev pub planTables : List ℕ → List ℕ → List ℕ → List ℕ → PlanTables
 planTables a b c d = record { lefts = a; tops = b; widths = c; heights = d }
+
+-- The tables lent to a function, as it finds and leaves them.
+abbrev pub plansBefore : Numbers → Numbers → Numbers → Numbers → PlanTables
+plansBefore lefts tops widths heights = planTables (now (lefts .entry)) (now (tops .entry)) (now (widths .entry)) (now (heights .entry))
+
+abbrev pub plansAfter : Numbers → Numbers → Numbers → Numbers → PlanTables
+plansAfter lefts tops widths heights = planTables (now (lefts .exit)) (now (tops .exit)) (now (widths .exit)) (now (heights .exit))
 
 -- The tables after slices were put from index i on.
 unfoldable pub putPlan : PlanTables → ℕ → List Slice → PlanTables

@@ -11,6 +11,7 @@ use lib.ListN.{length, getD, set, length-set}
 use lib.Seq.{getD-set-same, getD-set-other}
 use borrow.Author.Tests.{eqb-true, eqb-false, eq-eqb, ne-eqb, le-leb, lt-leb}
 use Rattle.partition.specs.Axis.{boundary, boundary-zero, boundary-suc, boundary-le, boundary-all}
+use Rattle.partition.specs.Grid.{maxTiles}
 use Rattle.partition.specs.Sizes.{sum, Positive}
 
 -- No size is 0.
@@ -20,12 +21,12 @@ positive (s ∷ ss) = not (eqb s 0) && positive ss
 
 -- At most 990 sizes, none of them 0, of an axis of 32 bits.
 unfoldable pub properSizes : List ℕ → Bool
-properSizes ss = leb (length ss) 990 && (positive ss && leb (sum ss) 4294967295)
+properSizes ss = leb (length ss) maxTiles && (positive ss && leb (sum ss) 4294967295)
 
 -- A table with where each column begins, and behind the last where the picture ends.
 pub record StartsAt (ss at : List ℕ) : Type 0 where
-  pub long : length at ≡ 991
-  pub few : length ss ≤ 990
+  pub long : length at ≡ maxTiles + 1
+  pub few : length ss ≤ maxTiles
   pub each : (c : ℕ) → c ≤ length ss → getD at c 0 ≡ boundary ss c
   pub some : Positive ss
   pub fits : sum ss ≤ 4294967295
@@ -34,8 +35,8 @@ pub record StartsAt (ss at : List ℕ) : Type 0 where
 
 -- What is known of the sizes before place i.
 pub record Starting (ss at : List ℕ) (total i : ℕ) : Type 0 where
-  pub long : length at ≡ 991
-  pub few : length ss ≤ 990
+  pub long : length at ≡ maxTiles + 1
+  pub few : length ss ≤ maxTiles
   pub within : i ≤ length ss
   pub is : total ≡ boundary ss i
   pub below : total ≤ 4294967295
@@ -59,17 +60,17 @@ all-positive (s ∷ ss) h = rw (ne-eqb s 0 (λ z. omega (arith, h 0 (omega arith
 
 improper : (ss : List ℕ) → (positive ss && leb (sum ss) 4294967295) ≡ false → properSizes ss ≡ false
 unfolding properSizes
-improper ss e = rw e (none (leb (length ss) 990))
+improper ss e = rw e (none (leb (length ss) maxTiles))
   where
     none : (b : Bool) → (b && false) ≡ false
     none true = refl
     none false = refl
 
-pub too-many : (ss : List ℕ) → 990 < length ss → properSizes ss ≡ false
+pub too-many : (ss : List ℕ) → maxTiles < length ss → properSizes ss ≡ false
 unfolding properSizes
-too-many ss h = rw (lt-leb (length ss) 990 h)
+too-many ss h = rw (lt-leb (length ss) maxTiles h)
 
-pub starting-begins : (ss at : List ℕ) → length at ≡ 991 → getD at 0 0 ≡ 0 → length ss ≤ 990 → Starting ss at 0 0
+pub starting-begins : (ss at : List ℕ) → length at ≡ maxTiles + 1 → getD at 0 0 ≡ 0 → length ss ≤ maxTiles → Starting ss at 0 0
 starting-begins ss at l z f =
     record {
       long = l;
@@ -134,7 +135,7 @@ module _ {ss at : List ℕ} {total i : ℕ} (S : Starting ss at total i) where
 
     pub starting-ends : properSizes ss ≡ true
     unfolding properSizes
-    starting-ends = rw (le-leb (length ss) 990 (S .few), all-positive ss sizes, le-leb (sum ss) 4294967295 low)
+    starting-ends = rw (le-leb (length ss) maxTiles (S .few), all-positive ss sizes, le-leb (sum ss) 4294967295 low)
 
     pub starting-table : StartsAt ss at
     starting-table = record { long = S .long; few = S .few; each = λ c h. S .each c (omega (arith, all)); some = sizes; fits = low }
@@ -144,4 +145,4 @@ pub improper-answer : (ss at : List ℕ) → properSizes ss ≡ false → (false
 improper-answer ss at e = (sym e, λ z. absurd (let y : _≡_ {A = ℕ} 0 1 = cc in omega arith))
 
 pub tiles-small : {ws cs hs rs : List ℕ} → StartsAt ws cs → StartsAt hs rs → length hs * length ws ≤ 4294967295
-tiles-small {ws} {cs} {hs} {rs} a b = let h : length hs * length ws ≤ length hs * 990 = mul-le-mul-left (length hs) (a .few) in omega (arith, b .few)
+tiles-small {ws} {cs} {hs} {rs} a b = let h : length hs * length ws ≤ length hs * maxTiles = mul-le-mul-left (length hs) (a .few) in omega (arith, b .few)

@@ -1,8 +1,9 @@
-// The slices of a picture in CTBs, by slice index, and the groups of tiles that they are cut from (H.266 6.5.1, equation 21).
+// The slices of a picture in CTBs, by slice index, and the groups of tiles that they are cut from (H.266 6.5.1,
+// equation 21).
 ghost use mathlib.Core.Path.{_≡_};
 ghost use Rattle.partition.specs.Partition.{declined};
-ghost use Rattle.pps_syntax.specs.SliceTables.{sliceTables};
-ghost use Rattle.question_tests.specs.Steps.{gridFrom};
+ghost use Rattle.pps_tables.specs.Parameters.{slicesBefore};
+ghost use Rattle.question_tests.specs.Steps.{gridBefore};
 ghost use Rattle.slice_plan.specs.Plans.{placedIn, slicedProper, tilesWithin};
 
 mod place;
@@ -11,23 +12,27 @@ mod starts;
 
 use place::place_slices;
 use pps_record::VvcPpsPartition;
+use pps_tables::ENTRY_LEN;
 use question_tests::slicing::slices_coded;
 use question_tests::slicing::slicing_refusal;
 use slice_loop::SliceIdx;
 use starts::starts_of;
+use tile_sizes::MAX_SLICES;
+use tile_sizes::MAX_TILE_COLUMNS;
+use tile_sizes::MAX_TILES;
 
 // The slices in CTBs by slice index, and the groups in tiles; places not in use are 0.
 pub struct Placed {
     pub num_slices: u32,
-    pub left: [u32; 1000],
-    pub top: [u32; 1000],
-    pub width: [u32; 1000],
-    pub height: [u32; 1000],
+    pub left: [u32; MAX_SLICES as usize],
+    pub top: [u32; MAX_SLICES as usize],
+    pub width: [u32; MAX_SLICES as usize],
+    pub height: [u32; MAX_SLICES as usize],
     pub num_groups: u32,
-    pub tile_x: [u32; 1000],
-    pub tile_y: [u32; 1000],
-    pub columns: [u32; 1000],
-    pub rows: [u32; 1000],
+    pub tile_x: [u32; MAX_SLICES as usize],
+    pub tile_y: [u32; MAX_SLICES as usize],
+    pub columns: [u32; MAX_SLICES as usize],
+    pub rows: [u32; MAX_SLICES as usize],
 }
 
 // A refusal, or 0; whether slices are coded; if so, the columns and rows of the grid, and what is placed in it.
@@ -45,15 +50,15 @@ pub fn none_placed(number: u8) -> PlacedIn
 {
     let placed = Placed {
         num_slices: 0,
-        left: [0; 1000],
-        top: [0; 1000],
-        width: [0; 1000],
-        height: [0; 1000],
+        left: [0; MAX_SLICES as usize],
+        top: [0; MAX_SLICES as usize],
+        width: [0; MAX_SLICES as usize],
+        height: [0; MAX_SLICES as usize],
         num_groups: 0,
-        tile_x: [0; 1000],
-        tile_y: [0; 1000],
-        columns: [0; 1000],
-        rows: [0; 1000],
+        tile_x: [0; MAX_SLICES as usize],
+        tile_y: [0; MAX_SLICES as usize],
+        columns: [0; MAX_SLICES as usize],
+        rows: [0; MAX_SLICES as usize],
     };
     PlacedIn {
         refused: number,
@@ -67,14 +72,14 @@ pub fn none_placed(number: u8) -> PlacedIn
 fn tiles_within(columns: usize, rows: usize) -> bool
     ensures { λ r. ⌜ r ≡ tilesWithin columns rows ⌝ }
 {
-    if columns > 30 {
+    if columns > MAX_TILE_COLUMNS as usize {
         return false;
     }
-    if rows > 990 {
+    if rows > MAX_TILES as usize {
         return false;
     }
     let tiles = rows * columns;
-    (tiles >= 1) & (tiles <= 990)
+    (tiles >= 1) & (tiles <= MAX_TILES as usize)
 }
 
 // What a partition places in the grid of these columns and rows, or its refusal; 13 where that is no grid of a picture.
@@ -82,15 +87,12 @@ pub fn placed_in(
     column_widths: &[u32],
     row_heights: &[u32],
     p: VvcPpsPartition,
-    widths: &[u32],
-    heights: &[u32],
-    split_present: &[u8],
-    split_counts: &[u32],
-    delta_present: &[u8],
-    deltas: &[i32],
+    entries: &[[u32; ENTRY_LEN]],
     split_heights: &[u32],
 ) -> PlacedIn
-    ensures { λ r. ⌜ r ≡ placedIn (slicedProper (gridFrom (now («column_widths» .entry)) (now («row_heights» .entry))) p (sliceTables (now (widths .entry)) (now (heights .entry)) (now («split_present» .entry)) (now («split_counts» .entry)) (now («delta_present» .entry)) (now (deltas .entry)) (now («split_heights» .entry)))) ⌝ }
+    ensures { λ r.
+        let g = gridBefore «column_widths» «row_heights» in
+        ⌜ r ≡ placedIn (slicedProper g p (slicesBefore entries «split_heights»)) ⌝ }
 {
     let columns = starts_of(column_widths);
     let rows = starts_of(row_heights);
@@ -99,18 +101,7 @@ pub fn placed_in(
     if !proper {
         return none_placed(13);
     }
-    let refused = slicing_refusal(
-        column_widths,
-        row_heights,
-        p,
-        widths,
-        heights,
-        split_present,
-        split_counts,
-        delta_present,
-        deltas,
-        split_heights,
-    );
+    let refused = slicing_refusal(column_widths, row_heights, p, entries, split_heights);
     if refused != 0 {
         return none_placed(refused);
     }
@@ -127,19 +118,16 @@ pub fn placed_in(
         p.pps_tile_idx_delta_present_flag != 0,
         SliceIdx(p.pps_num_slices_in_pic_minus1),
         p.num_rect_slices,
-        widths,
-        heights,
-        split_present,
-        split_counts,
-        delta_present,
-        deltas,
+        entries,
         split_heights,
     );
+    let num_tile_columns = column_widths.len() as u32;
+    let num_tile_rows = row_heights.len() as u32;
     PlacedIn {
         refused: 0,
         planned: true,
-        num_tile_columns: column_widths.len() as u32,
-        num_tile_rows: row_heights.len() as u32,
+        num_tile_columns,
+        num_tile_rows,
         placed,
     }
 }

@@ -1,28 +1,34 @@
-// The slice loop over accepted entries: the groups of tiles that they place, and their slices (H.266 6.5.1, equation 21).
+// The slice loop over accepted entries: the groups of tiles that they place, and their slices (H.266 6.5.1,
+// equation 21).
 ghost use mathlib.Core.Path.{_≡_};
 ghost use mathlib.Core.List.{List};
 ghost use Prim.Native.Nat.{_+_, _-_, _≤_, _<_};
-ghost use lib.ListN.{length, getD};
+ghost use lib.ListN.{length, getD, set};
 ghost use Rattle.partition.specs.Entry.{asking, firstPosition, splitHeights};
-ghost use Rattle.partition.specs.Grid.{tiles};
+ghost use Rattle.partition.specs.Grid.{tiles, maxSlicesMinus1, maxSlices};
 ghost use Rattle.partition.specs.Groups.{Group, stacked, plan};
 ghost use Rattle.partition.specs.Sizes.{Fit};
 ghost use Rattle.partition.specs.Walk.{walk, placed};
 ghost use Rattle.pps_syntax.specs.SliceTables.{sliceTables};
+ghost use Rattle.pps_tables.specs.Parameters.{slicesBefore};
 ghost use Rattle.question_tests.specs.Questions.{entriesIn};
-ghost use Rattle.question_tests.specs.Steps.{gridFrom};
+ghost use Rattle.question_tests.specs.Steps.{gridFrom, gridBefore};
 ghost use Rattle.slice_plan.specs.Plans.{placedOf};
-ghost use Rattle.slice_plan.specs.Stacking.{planTables, putPlan};
+ghost use Rattle.slice_plan.specs.Stacking.{plansBefore, plansAfter, putPlan};
 ghost use Rattle.slice_plan.specs.Starts.{StartsAt};
 use super::Placed;
-use super::stack::put_rect;
 use super::stack::stack;
-use question_tests::entries::entry_at;
-use question_tests::entries::next_tile;
-use question_tests::entries::place_after;
+use pps_lent::place_after;
+use pps_lent::split_count;
+use pps_tables::ENTRY_LEN;
+use pps_tables::entry_at;
+use question_tests::tiles::next_tile;
+use slice_loop::CtbCount;
 use slice_loop::SliceIdx;
 use slice_loop::SliceLoopCtx;
 use slice_loop::TileIdx;
+use tables::places::put_u32;
+use tile_sizes::MAX_SLICES;
 
 // The slices of a group of so many columns and rows, from tables of where these begin.
 fn place_group(
@@ -39,26 +45,65 @@ fn place_group(
     heights: &mut [u32],
     slice: SliceIdx,
 ) -> SliceIdx
-    requires { ⌜ (x + columns < length (now «column_starts»)) × (y + rows < length (now «row_starts»)) × (getD (now «column_starts») x 0 ≤ getD (now «column_starts») (x + columns) 0) × (getD (now «row_starts») y 0 < getD (now «row_starts») (y + rows) 0) × Fit (now «heights_minus1») (getD (now «row_starts») (y + rows) 0 - getD (now «row_starts») y 0) × (slice .0 + length (splitHeights (now «heights_minus1») (getD (now «row_starts») (y + rows) 0 - getD (now «row_starts») y 0)) ≤ 1000) × (x + columns ≤ 4294967295) × (y + rows ≤ 4294967295) × (getD (now «row_starts») (y + rows) 0 ≤ 4294967295) ⌝ }
-    ensures next { λ r. ⌜ r .0 ≡ slice .0 + length (splitHeights (now («heights_minus1» .entry)) (getD (now («row_starts» .entry)) (y + rows) 0 - getD (now («row_starts» .entry)) y 0)) ⌝ }
-    ensures tables { λ r. ⌜ planTables (now (lefts .exit)) (now (tops .exit)) (now (widths .exit)) (now (heights .exit)) ≡ putPlan (planTables (now (lefts .entry)) (now (tops .entry)) (now (widths .entry)) (now (heights .entry))) (slice .0) (stacked (getD (now («column_starts» .entry)) x 0) (getD (now («column_starts» .entry)) (x + columns) 0 - getD (now («column_starts» .entry)) x 0) (getD (now («row_starts» .entry)) y 0) (splitHeights (now («heights_minus1» .entry)) (getD (now («row_starts» .entry)) (y + rows) 0 - getD (now («row_starts» .entry)) y 0))) ⌝ }
+    requires { let left = getD (now «column_starts») x 0 in
+        let right = getD (now «column_starts») (x + columns) 0 in
+        let top = getD (now «row_starts») y 0 in
+        let bottom = getD (now «row_starts») (y + rows) 0 in
+        ⌜ (x + columns < length (now «column_starts»)) × (y + rows < length (now «row_starts»))
+        × (left ≤ right) × (top < bottom) × Fit (now «heights_minus1») (bottom - top)
+        × (slice .0 + length (splitHeights (now «heights_minus1») (bottom - top)) ≤ maxSlices)
+        × (x + columns ≤ 4294967295) × (y + rows ≤ 4294967295) × (bottom ≤ 4294967295) ⌝ }
+    ensures next { λ r.
+        let top = getD (now («row_starts» .entry)) y 0 in
+        let bottom = getD (now («row_starts» .entry)) (y + rows) 0 in
+        ⌜ r .0 ≡ slice .0 + length (splitHeights (now («heights_minus1» .entry)) (bottom - top)) ⌝ }
+    ensures tables { λ r.
+        let left = getD (now («column_starts» .entry)) x 0 in
+        let right = getD (now («column_starts» .entry)) (x + columns) 0 in
+        let top = getD (now («row_starts» .entry)) y 0 in
+        let bottom = getD (now («row_starts» .entry)) (y + rows) 0 in
+        let slices = stacked left (right - left) top (splitHeights (now («heights_minus1» .entry)) (bottom - top)) in
+        ⌜ plansAfter lefts tops widths heights ≡ putPlan (plansBefore lefts tops widths heights) (slice .0) slices ⌝ }
 {
     let left = column_starts[x as usize];
     let right = column_starts[(x + columns) as usize];
     let top = row_starts[y as usize];
     let bottom = row_starts[(y + rows) as usize];
-    SliceIdx(stack(
+    stack(
         heights_minus1,
-        left,
-        right - left,
-        top,
-        bottom - top,
+        CtbCount(left),
+        CtbCount(right - left),
+        CtbCount(top),
+        CtbCount(bottom - top),
         lefts,
         tops,
         widths,
         heights,
-        slice.0,
-    ))
+        slice,
+    )
+}
+
+// A group's column and row of tiles, and its columns and rows, each into its table.
+fn put_group(
+    tile_x: &mut [u32],
+    tile_y: &mut [u32],
+    columns: &mut [u32],
+    rows: &mut [u32],
+    i: u32,
+    x: u32,
+    y: u32,
+    across: u32,
+    down: u32,
+)
+    ensures xs { λ _. ⌜ now («tile_x» .exit) ≡ set (now («tile_x» .entry)) i x ⌝ }
+    ensures ys { λ _. ⌜ now («tile_y» .exit) ≡ set (now («tile_y» .entry)) i y ⌝ }
+    ensures columns { λ _. ⌜ now (columns .exit) ≡ set (now (columns .entry)) i across ⌝ }
+    ensures rows { λ _. ⌜ now (rows .exit) ≡ set (now (rows .entry)) i down ⌝ }
+{
+    put_u32(tile_x, i, x);
+    put_u32(tile_y, i, y);
+    put_u32(columns, i, across);
+    put_u32(rows, i, down);
 }
 
 // What accepted entries place in a grid whose columns and rows begin as these tables say.
@@ -70,16 +115,19 @@ pub fn place_slices(
     deltas_on: bool,
     n: SliceIdx,
     count: u32,
-    widths: &[u32],
-    heights: &[u32],
-    split_present: &[u8],
-    split_counts: &[u32],
-    delta_present: &[u8],
-    deltas: &[i32],
+    entries: &[[u32; ENTRY_LEN]],
     split_heights: &[u32],
 ) -> Placed
-    requires { ⌜ StartsAt (now «column_widths») (now «column_starts») × StartsAt (now «row_heights») (now «row_starts») × (0 < tiles (gridFrom (now «column_widths») (now «row_heights»))) × (n .0 ≤ 999) × ((ps : List Group) × (walk asking (gridFrom (now «column_widths») (now «row_heights»)) «deltas_on» (n .0) firstPosition (entriesIn (sliceTables (now widths) (now heights) (now «split_present») (now «split_counts») (now «delta_present») (now deltas) (now «split_heights»)) count) ≡ placed ps)) ⌝ }
-    ensures { λ r. ⌜ ((ps : List Group) → walk asking (gridFrom (now («column_widths» .entry)) (now («row_heights» .entry))) «deltas_on» (n .0) firstPosition (entriesIn (sliceTables (now (widths .entry)) (now (heights .entry)) (now («split_present» .entry)) (now («split_counts» .entry)) (now («delta_present» .entry)) (now (deltas .entry)) (now («split_heights» .entry))) count) ≡ placed ps → r ≡ placedOf (plan (gridFrom (now («column_widths» .entry)) (now («row_heights» .entry))) ps) ps) ⌝ }
+    requires { let g = gridFrom (now «column_widths») (now «row_heights») in
+        let es = entriesIn (sliceTables (now entries) (now «split_heights»)) count in
+        ⌜ StartsAt (now «column_widths») (now «column_starts») × StartsAt (now «row_heights») (now «row_starts»)
+        × (0 < tiles g) × (n .0 ≤ maxSlicesMinus1)
+        × ((ps : List Group) × (walk asking g «deltas_on» (n .0) firstPosition es ≡ placed ps)) ⌝ }
+    ensures { λ r.
+        let g = gridBefore «column_widths» «row_heights» in
+        let es = entriesIn (slicesBefore entries «split_heights») count in
+        ⌜ ((ps : List Group) → walk asking g «deltas_on» (n .0) firstPosition es ≡ placed ps
+        → r ≡ placedOf (plan g ps) ps) ⌝ }
 {
     let ctx = SliceLoopCtx {
         num_tile_columns: column_widths.len() as u32,
@@ -87,29 +135,22 @@ pub fn place_slices(
         delta_present: deltas_on,
         num_slices_minus1: n,
     };
-    let mut left = [0u32; 1000];
-    let mut top = [0u32; 1000];
-    let mut width = [0u32; 1000];
-    let mut height = [0u32; 1000];
-    let mut tile_x = [0u32; 1000];
-    let mut tile_y = [0u32; 1000];
-    let mut columns = [0u32; 1000];
-    let mut rows = [0u32; 1000];
+    let mut left = [0u32; MAX_SLICES as usize];
+    let mut top = [0u32; MAX_SLICES as usize];
+    let mut width = [0u32; MAX_SLICES as usize];
+    let mut height = [0u32; MAX_SLICES as usize];
+    let mut tile_x = [0u32; MAX_SLICES as usize];
+    let mut tile_y = [0u32; MAX_SLICES as usize];
+    let mut columns = [0u32; MAX_SLICES as usize];
+    let mut rows = [0u32; MAX_SLICES as usize];
     let mut slice = SliceIdx(0);
     let mut tile = TileIdx(0);
     let mut i: u32 = 0;
     let mut from: usize = 0;
     while i < count {
-        let e = entry_at(
-            widths,
-            heights,
-            split_present,
-            split_counts,
-            delta_present,
-            deltas,
-            i,
-        );
-        let to = place_after(split_heights.len(), from, e.split_count);
+        let e = entry_at(entries, i);
+        let splits = split_count(entries, i);
+        let to = place_after(split_heights.len(), from, splits);
         let at = ctx.place(tile);
         slice = place_group(
             column_starts,
@@ -125,7 +166,7 @@ pub fn place_slices(
             &mut height,
             slice,
         );
-        put_rect(
+        put_group(
             &mut tile_x,
             &mut tile_y,
             &mut columns,
@@ -159,7 +200,7 @@ pub fn place_slices(
             &mut height,
             slice,
         );
-        put_rect(
+        put_group(
             &mut tile_x,
             &mut tile_y,
             &mut columns,

@@ -2,20 +2,22 @@
 ghost use mathlib.Core.Bool.{true};
 ghost use mathlib.Core.Path.{_≡_};
 ghost use Rattle.slice_plan.specs.Starts.{properSizes, StartsAt};
+use tile_sizes::MAX_TILES;
 
-// Whether the sizes are those of an axis of a picture, and then where each of them begins, and behind the last where the picture ends.
+// Whether the sizes are those of an axis of a picture, and then where each of them begins, and behind the last where
+// the picture ends.
 pub struct Starts {
     pub proper: bool,
-    pub at: [u32; 991],
+    pub at: [u32; MAX_TILES as usize + 1],
 }
 
 pub fn starts_of(sizes: &[u32]) -> Starts
     ensures proper { λ r. ⌜ r .proper ≡ properSizes (now (sizes .entry)) ⌝ }
     ensures starts { λ r. ⌜ (r .proper ≡ true → StartsAt (now (sizes .entry)) (r .at)) ⌝ }
 {
-    let mut at = [0u32; 991];
+    let mut at = [0u32; MAX_TILES as usize + 1];
     let n = sizes.len();
-    if n > 990 {
+    if n > MAX_TILES as usize {
         return Starts { proper: false, at };
     }
     let mut total: u32 = 0;

@@ -1,7 +1,16 @@
 // One place of a lent table. Outside it reads as 0, and a store there does nothing.
 ghost use mathlib.Core.Path.{_≡_};
 ghost use lib.IntN.{pos};
+ghost use Prim.Native.Nat.{min};
 ghost use lib.ListN.{getD, set};
+
+// n places of a table, or all of them where it has fewer.
+pub fn at_most(n: u32, len: usize) -> usize
+    ensures { λ r. ⌜ r ≡ min n len ⌝ }
+{
+    let m = n as usize;
+    if m < len { m } else { len }
+}
 
 pub fn at_u8(flags: &[u8], i: u32) -> u8
     ensures { λ r. ⌜ r ≡ getD (now (flags .entry)) i 0 ⌝ }

@@ -11,15 +11,16 @@ use Rattle.partition.specs.Checks.{Outcome, fine, refusedWith, firstBad}
 use Rattle.partition.specs.Cover.{EachBlock}
 use Rattle.partition.specs.Demand.{OneTile, exactly-one-tile, tile-limits}
 use Rattle.partition.specs.Entry.{asking}
-use Rattle.partition.specs.Grid.{Grid, columns, tiles}
+use Rattle.partition.specs.Grid.{Grid, columns, tiles, maxTileColumns, maxTiles}
 use Rattle.partition.specs.Groups.{Group}
 use Rattle.partition.specs.Partition.{Partition, gridOf, Layout, declined, unsliced, sliced, unless, layout}
 use Rattle.pps_record.specs.declared.VvcPps.{VvcPps}
 use Rattle.pps_syntax.specs.FromRecord.{Lent, blockFrom, partitionFrom}
 use Rattle.pps_syntax.specs.PartitionSyntax.{partitionOf}
 use Rattle.question_tests.specs.Questions.{recordChecks, pictureLayout, layoutAsked}
-use Rattle.tile_grid.specs.Answers.{gridOfSizes}
-use Rattle.tile_grid.specs.GridQuestion.{gridAnswerOf, answer-unsliced, answer-sliced}
+use Rattle.grid_sizes.specs.Answers.{gridOfSizes}
+use Rattle.tile_grid.specs.Answers.{gridHeld}
+use Rattle.tile_grid.specs.GridQuestion.{ofRecord, answer-unsliced, answer-sliced}
 
 -- The partition that a record and its tables say.
 unfoldable pub partitionAsked : VvcPps → Lent → Partition
@@ -58,19 +59,19 @@ module _ (r : VvcPps) (t : Lent) (there : r .partition .present ≡ 0 → ⊥) w
   asked-is e = kept (firstBad (recordChecks r t)) _ e ∙ there-block
 
   -- "every record that the questions accept": its partition is accepted, and the grid question answers with its grid
-  pub asked-accepted : declinedLayout (layoutAsked r t) ≡ false → Accepted p × (gridAnswerOf (layoutAsked r t) ≡ gridOfSizes (gridOf p .columnWidths) (gridOf p .rowHeights))
+  pub asked-accepted : declinedLayout (layoutAsked r t) ≡ false → Accepted p × (ofRecord r t ≡ gridHeld (gridOfSizes (gridOf p .columnWidths) (gridOf p .rowHeights)))
   asked-accepted e = split (accepted-or-declined p)
     where
-      split : Accepted p ⊎ ((n : ℕ) × (layout asking p ≡ declined n)) → Accepted p × (gridAnswerOf (layoutAsked r t) ≡ gridOfSizes (gridOf p .columnWidths) (gridOf p .rowHeights))
-      split (inl (without-slices q)) = (without-slices q, rw (asked-is e, q) (answer-unsliced (gridOf p)))
-      split (inl (with-slices ps q)) = (with-slices ps q, rw (asked-is e, q) (answer-sliced (gridOf p) ps))
+      split : Accepted p ⊎ ((n : ℕ) × (layout asking p ≡ declined n)) → Accepted p × (ofRecord r t ≡ gridHeld (gridOfSizes (gridOf p .columnWidths) (gridOf p .rowHeights)))
+      split (inl (without-slices q)) = (without-slices q, rw (asked-is e, q) (ap gridHeld (answer-unsliced (gridOf p))))
+      split (inl (with-slices ps q)) = (with-slices ps q, rw (asked-is e, q) (ap gridHeld (answer-sliced (gridOf p) ps)))
       split (inr d) = absurd (let z : declinedLayout (declined (d .0)) ≡ false = ap declinedLayout (sym (asked-is e ∙ d .1)) ∙ e in let w : _≡_ {A = ℕ} 0 1 = cc in omega arith)
 
   -- each of its blocks lies in exactly one tile, of at most 30 columns and 990 tiles
   pub asked-one-tile : declinedLayout (layoutAsked r t) ≡ false → EachBlock (gridOf p) (λ x y. OneTile (gridOf p) x y)
   asked-one-tile e = exactly-one-tile p (asked-accepted e .0)
 
-  pub asked-limits : declinedLayout (layoutAsked r t) ≡ false → (columns (gridOf p) ≤ 30) × (tiles (gridOf p) ≤ 990)
+  pub asked-limits : declinedLayout (layoutAsked r t) ≡ false → (columns (gridOf p) ≤ maxTileColumns) × (tiles (gridOf p) ≤ maxTiles)
   asked-limits e = tile-limits p (asked-accepted e .0)
 
   -- a layout with slices is the partition's plan

@@ -6,11 +6,10 @@ use mathlib.Core.List.{List, [], _∷_, map}
 use native.Mathlib.Nat.{mul-comm}
 use native.Mathlib.Omega.{arith}
 use lib.ListN.{length}
-use borrow.Author.Tests.{le-leb}
 use Rattle.partition.specs.Cover.{Cover, RightTiles, tiles-right}
 use Rattle.partition.specs.Entry.{asking, firstPosition}
-use Rattle.partition.specs.Grid.{Grid, columns, rows, tiles}
-use Rattle.partition.specs.Groups.{Group, AllFit, groupsAt, groupsAtTile}
+use Rattle.partition.specs.Grid.{Grid, columns, rows, tiles, maxTileColumns, maxTiles, maxSlices}
+use Rattle.partition.specs.Groups.{Group, AllFit, groupsAt}
 use Rattle.partition.specs.Partition.{Layout, declined, unsliced, sliced, planOf}
 use Rattle.partition.specs.Placed.{walk-fits, walk-groups}
 use Rattle.pps_record.specs.declared.VvcPps.{VvcPps}
@@ -19,9 +18,8 @@ use Rattle.pps_syntax.specs.FromRecord.{Lent}
 use Rattle.question_tests.specs.Questions.{layoutAsked}
 use Rattle.slice_plan.specs.declared.PlacedIn.{PlacedIn}
 use Rattle.slice_plan.specs.Plans.{placedOf, placedIn}
-use Rattle.tile_cover.specs.Answer.{inDomain, RightOf}
-use Rattle.tile_cover.specs.Callers.{hold-front, right-held}
-use Rattle.tile_cover.specs.TileGroups.{groupsFrom}
+use Rattle.tile_grid.specs.GroupsHeld.{hold-front, right-held}
+use Rattle.tile_grid.specs.TileGroups.{groupsFrom, Countable}
 use Rattle.tile_sizes.specs.Padded.{tableOf, table-length}
 use Rattle.tile_grid.specs.declared.CoverAnswer.{CoverAnswer}
 use Rattle.tile_grid.specs.declared.CoverAnswer.the-variants.{Refused, NoPlan}
@@ -43,9 +41,9 @@ plan-view (sliced g ps) x e = rw e
 pub record Fitting (g : Grid) (ps : List Group) : Type 0 where
   pub fit : AllFit g ps
   pub some : 1 ≤ columns g
-  pub wide : columns g ≤ 30
-  pub small : tiles g ≤ 990
-  pub few : length ps ≤ 1000
+  pub wide : columns g ≤ maxTileColumns
+  pub small : tiles g ≤ maxTiles
+  pub few : length ps ≤ maxSlices
 
 unfoldable pub Coverable : Layout → Type 0
 Coverable (declined n) = n ≡ 0 → ⊥
@@ -99,34 +97,43 @@ module _ (x : PlacedIn) where
   cover-unplanned z u (unsliced g) c e = refl
   cover-unplanned z u (sliced g ps) c e = absurd (let q : true ≡ false = sym (planned-is (sliced g ps) e) ∙ u in let y : _≡_ {A = ℕ} 0 1 = cc in omega arith)
 
-  in-domain : (g : Grid) (ps : List Group) → Fitting g ps → inDomain (columns g) (rows g) 1000 1000 1000 1000 (length ps) ≡ true
-  unfolding inDomain
-  in-domain g ps f =
-      let m : columns g * rows g ≤ 990 = omega (arith, f .small, mul-comm (columns g) (rows g)) in
-      rw (le-leb 1 (columns g) (f .some), le-leb (columns g) 30 (f .wide), le-leb (columns g * rows g) 990 m, le-leb (length ps) 1000 (f .few))
+  abbrev xs : List Group → (Group → ℕ) → List ℕ
+  xs ps f = tableOf maxSlices (map f ps)
+
+  lengths : (ps : List Group) (f : Group → ℕ) → length ps ≤ maxSlices → length (xs ps f) ≡ maxSlices
+  lengths ps f h = table-length maxSlices (map f ps) (omega (arith, h, map-length f ps))
+
+  pub cover-ready : x .planned ≡ true → (l : Layout) → Coverable l → x ≡ placedIn l
+      → Countable (x .«num_tile_columns») (x .«num_tile_rows») (x .placed .«tile_x») (x .placed .«tile_y») (x .placed .columns) (x .placed .rows) (x .placed .«num_groups»)
+  unfolding Coverable placedIn placedOf
+  cover-ready u (declined m) c e = absurd (let q : false ≡ true = sym (planned-is (declined m) e) ∙ u in let y : _≡_ {A = ℕ} 0 1 = cc in omega arith)
+  cover-ready u (unsliced g) c e = absurd (let q : false ≡ true = sym (planned-is (unsliced g) e) ∙ u in let y : _≡_ {A = ℕ} 0 1 = cc in omega arith)
+  cover-ready u (sliced g ps) c e =
+      rw e
+      (record {
+        some = c .some;
+        wide = c .wide;
+        small = omega (arith, c .small, mul-comm (columns g) (rows g));
+        listed =
+            record {
+              few = c .few;
+              columns = omega (arith, c .few, lengths ps (λ p. p .tileX) (c .few));
+              rows = omega (arith, c .few, lengths ps (λ p. p .tileY) (c .few));
+              widths = omega (arith, c .few, lengths ps (λ p. p .width) (c .few));
+              heights = omega (arith, c .few, lengths ps (λ p. p .height) (c .few));
+            };
+      })
 
   abbrev counted : Cover → Type 0
   counted k =
-      RightOf (inDomain (x .«num_tile_columns») (x .«num_tile_rows») (length (x .placed .«tile_x»)) (length (x .placed .«tile_y»)) (length (x .placed .columns)) (length (x .placed .rows)) (x .placed .«num_groups»))
-      (x .«num_tile_columns» * x .«num_tile_rows»)
+      RightTiles (x .«num_tile_columns» * x .«num_tile_rows»)
       (λ t. groupsAt (groupsFrom (x .placed .«tile_x») (x .placed .«tile_y») (x .placed .columns) (x .placed .rows) 0 (x .placed .«num_groups»)) (t % x .«num_tile_columns») (t / x .«num_tile_columns»)) k
 
-  pub cover-counted : x .planned ≡ true → (k : Cover) → counted k → (r : CoverAnswer) → coverNamed r ≡ k → (l : Layout) → Coverable l → x ≡ placedIn l → RightAnswer l r
+  pub cover-counted : x .planned ≡ true → (r : CoverAnswer) → counted (coverNamed r) → (l : Layout) → Coverable l → x ≡ placedIn l → RightAnswer l r
   unfolding RightAnswer Coverable placedIn placedOf tableOf
-  cover-counted u k h r n (declined m) c e = absurd (let q : false ≡ true = sym (planned-is (declined m) e) ∙ u in let y : _≡_ {A = ℕ} 0 1 = cc in omega arith)
-  cover-counted u k h r n (unsliced g) c e = absurd (let q : false ≡ true = sym (planned-is (unsliced g) e) ∙ u in let y : _≡_ {A = ℕ} 0 1 = cc in omega arith)
-  cover-counted u k h r n (sliced g ps) c e = rw n (tiles-right g ps (c .fit) k (held (rw e at h)))
-    where
-      xs : (Group → ℕ) → List ℕ
-      xs f = tableOf 1000 (map f ps)
-
-      lengths : (f : Group → ℕ) → length (xs f) ≡ 1000
-      lengths f = table-length 1000 (map f ps) (omega (arith, c .few, map-length f ps))
-
-      held : RightOf (inDomain (columns g) (rows g) (length (xs (λ p. p .tileX))) (length (xs (λ p. p .tileY))) (length (xs (λ p. p .width))) (length (xs (λ p. p .height))) (length ps))
-          (columns g * rows g) (λ t. groupsAt (groupsFrom (xs (λ p. p .tileX)) (xs (λ p. p .tileY)) (xs (λ p. p .width)) (xs (λ p. p .height)) 0 (length ps)) (t % columns g) (t / columns g)) k
-          → RightTiles (tiles g) (groupsAtTile g ps) k
-      held =
-          right-held (xs (λ p. p .tileX)) (xs (λ p. p .tileY)) (xs (λ p. p .width)) (xs (λ p. p .height)) g ps (columns g) (rows g) (length ps) refl refl refl (hold-front ps _ _ _ _)
-          (inDomain (columns g) (rows g) (length (xs (λ p. p .tileX))) (length (xs (λ p. p .tileY))) (length (xs (λ p. p .width))) (length (xs (λ p. p .height))) (length ps))
-          (rw (lengths (λ p. p .tileX), lengths (λ p. p .tileY), lengths (λ p. p .width), lengths (λ p. p .height)) (in-domain g ps c)) k
+  cover-counted u r h (declined m) c e = absurd (let q : false ≡ true = sym (planned-is (declined m) e) ∙ u in let y : _≡_ {A = ℕ} 0 1 = cc in omega arith)
+  cover-counted u r h (unsliced g) c e = absurd (let q : false ≡ true = sym (planned-is (unsliced g) e) ∙ u in let y : _≡_ {A = ℕ} 0 1 = cc in omega arith)
+  cover-counted u r h (sliced g ps) c e =
+      tiles-right g ps (c .fit) (coverNamed r)
+      (right-held (xs ps (λ p. p .tileX)) (xs ps (λ p. p .tileY)) (xs ps (λ p. p .width)) (xs ps (λ p. p .height)) g ps (columns g) (rows g) (length ps) refl refl refl (hold-front ps _ _ _ _) (coverNamed r)
+      (rw e at h))

@@ -1,5 +1,5 @@
 -- The questions by their steps: the tests before the slices' and the grid, then the slices in it.
-use Prim.Native.Nat.{ℕ, zero, suc, _+_, _-_, _/_, _≤_, _<_, min}
+use Prim.Native.Nat.{ℕ, zero, suc, _+_, _-_, _/_, _≤_, _<_}
 use mathlib.Core.Path.{_≡_, refl, sym, ap, _∙_}
 use mathlib.Core.List.{List, [], _∷_, _++_, map}
 use mathlib.Core.Bool.{Bool, true, false, cond}
@@ -25,7 +25,6 @@ use Rattle.pps_syntax.specs.Laid.{slices-coded}
 use Rattle.pps_syntax.specs.PartitionSyntax.{partitionOf}
 use Rattle.pps_syntax.specs.SliceSyntax.{entryOf}
 use Rattle.pps_syntax.specs.SliceTables.{SliceTables, slicesFrom}
-use Rattle.question_tests.specs.Walking.{take-held}
 use Rattle.question_tests.specs.Questions.{recordChecks, noTiles, pictureLayout, layoutAsked, slicingChecks, entriesIn, slicedIn}
 use Rattle.question_tests.specs.Sliced.{Slicing, without-slices, with-slices, slicing-accepted, walked, declined-number, first-positive}
 use Rattle.question_tests.specs.Steps.{gridFrom, withinLimits, slicedWithin}
@@ -34,9 +33,10 @@ use Rattle.slice_plan.specs.Plans.{slicedProper, placedIn}
 use Rattle.slice_plan.specs.PlanLaws.{Proper, grid-proper, proper-is, none-unsliced}
 use Rattle.slice_plan.specs.Starts.{properSizes, all-positive}
 use Rattle.tile_sizes.specs.Padded.{tableOf}
-use Rattle.tile_grid.specs.declared.GridAnswer.{GridAnswer}
-use Rattle.tile_grid.specs.Answers.{gridOfSizes, noGrid, refusedGrid, gridFor, gridAnswer}
-use Rattle.tile_grid.specs.GridQuestion.{gridAnswerOf, answer-unsliced, answer-sliced, answer-declined, answer-number}
+use Rattle.grid_sizes.specs.Fronts.{gridIn}
+use Rattle.grid_sizes.specs.declared.SizesAnswer.{SizesAnswer}
+use Rattle.grid_sizes.specs.Answers.{gridOfSizes, noSizes, refusedSizes, sizesFor, gridSizes}
+use Rattle.tile_grid.specs.GridQuestion.{sizesOf, answer-unsliced, answer-sliced, answer-declined, answer-number}
 
 -- ---- the partition in its grid
 
@@ -130,23 +130,23 @@ module _ (r : VvcPps) (t : Lent) where
   numbered-grid = (lit< tt, (lit< tt, (lit< tt, (lit< tt, (lit< tt, (lit< tt, (lit< tt, (lit< tt, (lit< tt, tt)))))))))
 
   -- as the code makes them
-  pub tests-refused : (n : ℕ) → n ≡ numberOf (firstBad (recordChecks r t)) → (n ≡ 0 → ⊥) → refusedGrid n ≡ gridAnswerOf gridAsked
-  unfolding gridAsked unless gridAnswerOf
+  pub tests-refused : (n : ℕ) → n ≡ numberOf (firstBad (recordChecks r t)) → (n ≡ 0 → ⊥) → refusedSizes n ≡ sizesOf gridAsked
+  unfolding gridAsked unless sizesOf
   tests-refused n e z = rw (number-refused (firstBad (recordChecks r t)) n e z)
 
   module _ (n : ℕ) (e : n ≡ numberOf (firstBad (recordChecks r t))) (z : n ≡ 0) where
     pass : firstBad (recordChecks r t) ≡ fine
     pass = zero-fine (recordChecks r t) numbered-record (sym z ∙ e)
 
-    pub tests-unpartitioned : p .present ≡ 0 → refusedGrid 0 ≡ gridAnswerOf gridAsked
-    unfolding gridAsked unless gridAnswerOf noTiles refusedGrid noGrid gridOfSizes tableOf
+    pub tests-unpartitioned : p .present ≡ 0 → refusedSizes 0 ≡ sizesOf gridAsked
+    unfolding gridAsked unless sizesOf noTiles refusedSizes noSizes gridOfSizes tableOf
     tests-unpartitioned q = rw (pass, eq-eqb (p .present) 0 q)
 
-    pub tests-grid : (p .present ≡ 0 → ⊥) → (a : GridAnswer) → a ≡ gridAnswer W H size cs rs → a ≡ gridAnswerOf gridAsked
-    unfolding gridAsked unless gridAnswer gridFor gridAnswerOf
+    pub tests-grid : (p .present ≡ 0 → ⊥) → (a : SizesAnswer) → a ≡ gridSizes W H size cs rs → a ≡ sizesOf gridAsked
+    unfolding gridAsked unless gridSizes sizesFor sizesOf
     tests-grid q a f = f ∙ rw (pass, ne-eqb (p .present) 0 q) (go (firstBad checks))
       where
-        go : (o : Outcome) → gridFor o grid ≡ gridAnswerOf (unless o (unsliced grid))
+        go : (o : Outcome) → sizesFor o grid ≡ sizesOf (unless o (unsliced grid))
         go fine = refl
         go (refusedWith n) = refl
 
@@ -249,9 +249,9 @@ module _ (r : VvcPps) (t : Lent) where
       tests (refusedWith n) e = stopped n (first-positive (recordChecks r t) numbered-record n e) (rw e)
       tests fine e = presence e (eqb (p .present) 0) refl
 
-  module _ (a : GridAnswer) (e : a ≡ gridAnswerOf gridAsked) where
+  module _ (a : SizesAnswer) (e : a ≡ sizesOf gridAsked) where
     number : a .refused ≡ declinedWith gridAsked
-    number = ap (λ (x : GridAnswer). x .refused) e ∙ answer-number gridAsked
+    number = ap (λ (x : SizesAnswer). x .refused) e ∙ answer-number gridAsked
 
     module _ (z : a .refused ≡ 0 → ⊥) where
       grid-declined : gridAsked ≡ declined (a .refused)
@@ -266,8 +266,8 @@ module _ (r : VvcPps) (t : Lent) where
           go true b q = unsliced-declined noTiles (a .refused) _ (rw b at q)
           go false b q = there-layout (eqb-false (p .present) 0 b) ∙ same-refusal (firstBad checks) (unsliced grid) (slicedIn grid p (t .slices)) (a .refused) (rw b at q) (unsliced-declined grid (a .refused) _)
 
-      pub answer-refused : a ≡ gridAnswerOf (layoutAsked r t)
-      answer-refused = e ∙ ap gridAnswerOf (grid-declined ∙ sym asked-declined)
+      pub answer-refused : a ≡ sizesOf (layoutAsked r t)
+      answer-refused = e ∙ ap sizesOf (grid-declined ∙ sym asked-declined)
 
     module _ (z : a .refused ≡ 0) where
       tests-fine : firstBad (recordChecks r t) ≡ fine
@@ -282,8 +282,8 @@ module _ (r : VvcPps) (t : Lent) where
       unfolding gridAsked unless
       grid-absent q = rw (tests-fine, eq-eqb (p .present) 0 q)
 
-      pub answer-absent : p .present ≡ 0 → a ≡ gridAnswerOf (layoutAsked r t)
-      answer-absent q = e ∙ ap gridAnswerOf (grid-absent q ∙ sym (asked-absent q))
+      pub answer-absent : p .present ≡ 0 → a ≡ sizesOf (layoutAsked r t)
+      answer-absent q = e ∙ ap sizesOf (grid-absent q ∙ sym (asked-absent q))
 
       module _ (q : p .present ≡ 0 → ⊥) where
         grid-there : gridAsked ≡ unless (firstBad checks) (unsliced grid)
@@ -298,15 +298,15 @@ module _ (r : VvcPps) (t : Lent) where
         asked-there = rw tests-fine (there-layout q ∙ rw grid-fine)
 
         made : a ≡ gridOfSizes (grid .columnWidths) (grid .rowHeights)
-        unfolding unless gridAnswerOf
-        made = e ∙ ap gridAnswerOf grid-there ∙ rw grid-fine
+        unfolding unless sizesOf
+        made = e ∙ ap sizesOf grid-there ∙ rw grid-fine
 
-        pub grid-limits : (a .grid .«num_tile_columns» ≤ 30) × (a .grid .«num_tile_rows» ≤ 990)
+        pub grid-limits : (a .sizes .«num_tile_columns» ≤ 30) × (a .sizes .«num_tile_rows» ≤ 990)
         unfolding gridOfSizes
         grid-limits = rw made (few-columns grid-fine, few-rows grid-fine)
 
         -- the used places of the grid's tables
-        pub grid-back : gridFrom (take (a .grid .«num_tile_columns») (a .grid .«column_widths»)) (take (a .grid .«num_tile_rows») (a .grid .«row_heights»)) ≡ grid
+        pub grid-back : gridIn (a .sizes) ≡ grid
         unfolding gridOfSizes tableOf
         grid-back = rw made (both (take-append-seam (grid .columnWidths) _) (take-append-seam (grid .rowHeights) _))
           where
@@ -315,7 +315,7 @@ module _ (r : VvcPps) (t : Lent) where
 
         -- ---- the slices in it
 
-        module _ (n : ℕ) (s : n ≡ declinedWith (slicedWithin (gridFrom (take (a .grid .«num_tile_columns») (a .grid .«column_widths»)) (take (a .grid .«num_tile_rows») (a .grid .«row_heights»))) p (t .slices))) where
+        module _ (n : ℕ) (s : n ≡ declinedWith (slicedWithin (gridIn (a .sizes)) p (t .slices))) where
           within : slicedWithin grid p (t .slices) ≡ slicedIn grid p (t .slices)
           unfolding slicedWithin withinLimits
           within = rw (le-leb (columns grid) 30 (few-columns grid-fine), le-leb (rows grid) 990 (few-rows grid-fine))
@@ -323,18 +323,18 @@ module _ (r : VvcPps) (t : Lent) where
           slices-number : n ≡ declinedWith (slicedIn grid p (t .slices))
           slices-number = s ∙ ap (λ (x : Grid). declinedWith (slicedWithin x p (t .slices))) grid-back ∙ ap declinedWith within
 
-          pub slices-declined : (n ≡ 0 → ⊥) → refusedGrid n ≡ gridAnswerOf (layoutAsked r t)
-          slices-declined x = sym (answer-declined n) ∙ ap gridAnswerOf (sym (asked-there ∙ declined-number (slicedIn grid p (t .slices)) n slices-number x))
+          pub slices-declined : (n ≡ 0 → ⊥) → refusedSizes n ≡ sizesOf (layoutAsked r t)
+          slices-declined x = sym (answer-declined n) ∙ ap sizesOf (sym (asked-there ∙ declined-number (slicedIn grid p (t .slices)) n slices-number x))
 
-          pub slices-accepted : n ≡ 0 → a ≡ gridAnswerOf (layoutAsked r t)
+          pub slices-accepted : n ≡ 0 → a ≡ sizesOf (layoutAsked r t)
           slices-accepted x = go (slicing-accepted grid p (t .slices) (sym x ∙ slices-number))
             where
-              go : Slicing grid p (t .slices) → a ≡ gridAnswerOf (layoutAsked r t)
-              go (without-slices c i) = made ∙ sym (answer-unsliced grid) ∙ ap gridAnswerOf (sym (asked-there ∙ i))
-              go (with-slices c f ps w i) = made ∙ sym (answer-sliced grid ps) ∙ ap gridAnswerOf (sym (asked-there ∙ i))
+              go : Slicing grid p (t .slices) → a ≡ sizesOf (layoutAsked r t)
+              go (without-slices c i) = made ∙ sym (answer-unsliced grid) ∙ ap sizesOf (sym (asked-there ∙ i))
+              go (with-slices c f ps w i) = made ∙ sym (answer-sliced grid ps) ∙ ap sizesOf (sym (asked-there ∙ i))
 
         pub slices-placed : W ≤ 4294967295 → H ≤ 4294967295 → (x : PlacedIn)
-            → x ≡ placedIn (slicedProper (gridFrom (take (a .grid .«num_tile_columns») (a .grid .«column_widths»)) (take (a .grid .«num_tile_rows») (a .grid .«row_heights»))) p (t .slices))
+            → x ≡ placedIn (slicedProper (gridIn (a .sizes)) p (t .slices))
             → x ≡ placedIn (layoutAsked r t)
         slices-placed w h x i =
             i ∙ ap (λ (y : Grid). placedIn (slicedProper y p (t .slices))) grid-back ∙ ap placedIn (proper-is grid p (t .slices) (grid-proper grid (proper grid-fine w h)) ∙ sym asked-there)
@@ -345,18 +345,8 @@ module _ (r : VvcPps) (t : Lent) where
     pub none-declined : (a .refused ≡ 0 → ⊥) → placedIn (declined (a .refused)) ≡ placedIn (layoutAsked r t)
     none-declined z = ap placedIn (sym (asked-declined z))
 
--- the first so many of two tables
-pub front-length : (n a : ℕ) (l : List ℕ) → a ≡ min n (length l) → a ≡ length (take a l)
-front-length n a l e = sym (length-take-le a l (omega arith))
-
 pub part-length : (a : ℕ) (l : List ℕ) → a ≤ length l → a ≡ length (take a l)
 part-length a l h = sym (length-take-le a l h)
-
-pub fronts-made : (W H ctu m n a b : ℕ) (ws hs : List ℕ) (r : GridAnswer) → a ≡ min m (length ws) → b ≡ min n (length hs) → r ≡ gridAnswer W H ctu (take a ws) (take b hs) → r ≡ gridAnswer W H ctu (take m ws) (take n hs)
-fronts-made W H ctu m n a b ws hs r p q e = e ∙ rw (front m a ws p, front n b hs q)
-  where
-    front : (m a : ℕ) (l : List ℕ) → a ≡ min m (length l) → take a l ≡ take m l
-    front m a l e = let z : a ≡ min (length l) m = omega arith in rw z (take-held m l)
 
 pub within-length : (a n : ℕ) (l : List ℕ) → length l ≡ n → a ≤ n → a ≤ length l
 within-length a n l e h = omega arith

@@ -1,8 +1,13 @@
 pub mod Answers
 pub mod AskedDemand
 pub mod Covered
+pub mod Down
+pub mod Edges
 pub mod GridQuestion
+pub mod GroupsHeld
 pub mod InGrid
-pub mod Laws
+pub mod Marking
 pub mod PlanDemand
 pub mod PlanQuestion
+pub mod Seen
+pub mod TileGroups

@@ -1,3 +1,4 @@
+pub mod Blocks
 pub mod Count
 pub mod Next
 pub mod Search

@@ -1,4 +1,5 @@
 pub mod Answers
 pub mod Laws
 pub mod Left
+pub mod Limits
 pub mod Padded

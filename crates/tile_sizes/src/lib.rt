@@ -5,9 +5,60 @@ ghost use Prim.Native.Nat.{_+_, _/_, _%_, _≤_, min};
 ghost use lib.ListN.{length, drop};
 ghost use lib.Dec.{leb};
 ghost use Rattle.partition.specs.Entry.{someAtLeast};
+ghost use Rattle.partition.specs.Partition.{inCtbs};
 ghost use Rattle.partition.specs.Sizes.{sum, explicitSizes, axisSizes};
 ghost use Rattle.tile_sizes.specs.Answers.{nextSize, slicesInTile};
+ghost use Rattle.tile_sizes.specs.Limits.{withinLimits};
 use slice_loop::CtbCount;
+
+// Table A.2, for every level: the limits of the grid (`TileGrid` has them as its constants).
+pub const MAX_TILE_COLUMNS: u32 = 30;
+
+pub const MAX_TILES: u32 = 990;
+
+pub const MAX_NUM_SLICES_MINUS1: u32 = 999;
+
+pub const MAX_SLICES: u32 = MAX_NUM_SLICES_MINUS1 + 1;
+
+// A grid of so many columns and rows is within the limits.
+pub fn within_limits(columns: usize, rows: usize) -> bool
+    ensures { λ r. ⌜ r ≡ withinLimits columns rows ⌝ }
+{
+    let most = MAX_TILES as usize;
+    if columns == 0 {
+        return rows == 0;
+    }
+    (columns <= MAX_TILE_COLUMNS as usize) & (rows <= most / columns)
+}
+
+fn wide(x: u32) -> u64
+    ensures { λ r. ⌜ r ≡ x ⌝ }
+{
+    x as u64
+}
+
+// A length in luma samples, in blocks of 2^(5 + the CTU size field), rounded up. A field over 5 counts as 5.
+pub fn in_ctbs(samples: u32, log2_ctu_size_minus5: u8) -> CtbCount
+    ensures { λ r. ⌜ r .0 ≡ inCtbs samples (min «log2_ctu_size_minus5» 5) ⌝ }
+{
+    let n = wide(samples);
+    if log2_ctu_size_minus5 == 0 {
+        return CtbCount(((n + 31) / 32) as u32);
+    }
+    if log2_ctu_size_minus5 == 1 {
+        return CtbCount(((n + 63) / 64) as u32);
+    }
+    if log2_ctu_size_minus5 == 2 {
+        return CtbCount(((n + 127) / 128) as u32);
+    }
+    if log2_ctu_size_minus5 == 3 {
+        return CtbCount(((n + 255) / 256) as u32);
+    }
+    if log2_ctu_size_minus5 == 4 {
+        return CtbCount(((n + 511) / 512) as u32);
+    }
+    CtbCount(((n + 1023) / 1024) as u32)
+}
 
 // How many sizes there are on an axis, 0 where the explicit ones pass it.
 pub struct SizeCount {

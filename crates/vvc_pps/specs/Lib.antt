@@ -1,3 +1,4 @@
 pub mod Answers
 pub mod PpsAnswer
 pub mod QuestionAnswers
+pub mod Version

@@ -1,11 +1,18 @@
--- What reading answers, for C to hold: the number of a refusal, 0 where nothing is refused, the bytes taken and the record; beside a refusal zeros.
+-- What reading answers, for C to hold: the number of a refusal, 0 where nothing is refused, the bytes taken, the record
+-- and the triples beside it; beside a refusal zeros.
 use Prim.Native.Nat.{ℕ}
+use mathlib.Core.Path.{_≡_, ap, _∙_}
 use lib.IntN.{pos}
+use mathlib.Core.List.{List}
+use Rattle.pps_answer.specs.ParsePps.{ReadOutcome, outcome}
+use Rattle.pps_answer.specs.declared.PpsAnswer.{PpsAnswer}
+use Rattle.pps_answer.specs.declared.PpsAnswer.the-variants as answer
 use Rattle.pps_answer.specs.declared.PpsRead.{PpsRead}
-use Rattle.pps_answer.specs.declared.PpsRead.the-variants as read
 use Rattle.pps_record.specs.Absent.{noPartition}
 use Rattle.pps_record.specs.declared.VvcPps.{VvcPps}
 use Rattle.pps_record.specs.declared.VvcPpsPartition.{VvcPpsPartition}
+use Rattle.pps_record.specs.declared.VvcQpOffsets.{VvcQpOffsets}
+use Rattle.pps_syntax.specs.FromRecord.{Lent}
 use Rattle.vvc_pps.specs.declared.reading.VvcPpsRead.{VvcPpsRead}
 
 -- zero throughout, beside a block
@@ -87,9 +94,30 @@ zerosBeside block =
 unfoldable pub noPps : VvcPps
 noPps = zerosBeside noPartition
 
-abbrev pub refusedRead : ℕ → VvcPps → VvcPpsRead
-refusedRead k none = record { refused = k; «bytes_taken» = 0; pps = none }
+abbrev pub refusedRead : ℕ → List VvcQpOffsets → VvcPps → VvcPpsRead
+refusedRead k triples none = record { refused = k; «bytes_taken» = 0; pps = none; triples = triples }
+
+abbrev pub answerRead : List VvcQpOffsets → PpsAnswer → VvcPpsRead
+answerRead triples (answer.Accepted a) =
+    record { refused = 0; «bytes_taken» = a .«bytes_taken»; pps = a .pps; triples = triples }
+answerRead triples (answer.Refused k) = refusedRead k triples noPps
 
 abbrev pub ppsRead : PpsRead → VvcPpsRead
-ppsRead (read.Accepted a) = record { refused = 0; «bytes_taken» = a .«bytes_taken»; pps = a .pps }
-ppsRead (read.Refused k) = refusedRead k noPps
+ppsRead r = answerRead (r .triples) (r .answer)
+
+-- with what is left in the work buffer and in the tables
+pub record HeldRead : Type 0 where
+  pub answer : VvcPpsRead
+  pub work : List ℕ
+  pub tables : Lent
+
+abbrev pub heldRead : VvcPpsRead → List ℕ → Lent → HeldRead
+heldRead answer work tables = record { answer = answer; work = work; tables = tables }
+
+abbrev pub readHeld : ReadOutcome → HeldRead
+readHeld o = heldRead (ppsRead (o .answer)) (o .work) (o .tables)
+
+-- ---- how code comes to it
+pub read-held : (r : VvcPpsRead) (o : PpsRead) (work : List ℕ) (t : Lent) (all : ReadOutcome)
+    → r ≡ ppsRead o → outcome o work t ≡ all → heldRead r work t ≡ readHeld all
+read-held r o work t all p q = ap (λ (a : VvcPpsRead). heldRead a work t) p ∙ ap readHeld q

@@ -1,11 +1,10 @@
--- What the questions answer, for C to hold: the number of a refusal, 0 where nothing is refused, and the values; of a cover its kind, with its tile or its refusal.
+-- What the questions answer, for C to hold: the number of a refusal, 0 where nothing is refused, and the values; of a
+-- cover its kind, with its tile or its refusal.
 use mathlib.Core.Path.{_≡_}
-use Rattle.partition.specs.Partition.{Layout}
 use Rattle.tile_grid.specs.declared.GridAnswer.{GridAnswer}
 use Rattle.tile_grid.specs.declared.PlanAnswer.{PlanAnswer}
 use Rattle.tile_grid.specs.declared.CoverAnswer.{CoverAnswer}
 use Rattle.tile_grid.specs.declared.CoverAnswer.the-variants as cover
-use Rattle.tile_grid.specs.PlanQuestion.{RightAnswer}
 use Rattle.vvc_pps.specs.declared.questions.VvcGridAnswer.{VvcGridAnswer}
 use Rattle.vvc_pps.specs.declared.questions.VvcPlanAnswer.{VvcPlanAnswer}
 use Rattle.vvc_pps.specs.declared.questions.VvcCoverAnswer.{VvcCoverAnswer}
@@ -39,6 +38,6 @@ coverHeld (cover.Gap t) = record { kind = 2; refused = 0; tile = t .0 }
 coverHeld (cover.Double t) = record { kind = 3; refused = 0; tile = t .0 }
 coverHeld (cover.Refused k) = record { kind = 4; refused = k; tile = 0 }
 
--- It holds a right answer to the cover question.
-abbrev pub RightHeld : Layout → VvcCoverAnswer → Type 0
-RightHeld l r = (c : CoverAnswer) × (RightAnswer l c × (r ≡ coverHeld c))
+-- It holds one of the right answers to the cover question.
+abbrev pub Holds : (CoverAnswer → Type 0) → VvcCoverAnswer → Type 0
+Holds Right r = (c : CoverAnswer) × (Right c × (r ≡ coverHeld c))

@@ -1,5 +1,5 @@
-// The C interface: each function calls the library's of the same name. A slice crosses as a pointer and a length; an answer as a struct
-// with the number of the refusal, 0 where there is none, beside the values.
+// The C interface, include/vvc_pps.h: each function calls the library's of the same name. A slice crosses as a pointer
+// and a length; an answer as a struct with the number of the refusal, 0 where there is none, beside the values.
 ghost use mathlib.Core.Path.{_≡_};
 ghost use Prim.Native.Nat.{min};
 ghost use Rattle.nal.specs.Answers.{unescapeAnswer, unescapeOut, escapeAnswer, escapeOut};
@@ -16,6 +16,7 @@ ghost use Rattle.codes.specs.Symbols.{putting};
 ghost use Rattle.bit_writer.specs.Writing.{sinkOver, fresh, play, closed};
 ghost use Rattle.bit_writer.specs.Answers.{answerOf};
 ghost use Rattle.vvc_pps.specs.Answers.{byteCount, nalHeader, ueSize};
+ghost use Rattle.vvc_pps.specs.Version.{versionOf};
 
 mod no_pps;
 pub mod questions;
@@ -30,6 +31,22 @@ use code_length::UeSize;
 use h266::NalHeader;
 use h266::VvcNalHeader;
 use nal::ByteCount;
+
+// include/vvc_pps.h and CHANGELOG.md have the same numbers.
+const VERSION_MAJOR: u32 = 0;
+
+const VERSION_MINOR: u32 = 2;
+
+const VERSION_PATCH: u32 = 0;
+
+const VERSION: u32 = VERSION_MAJOR * 65536 + VERSION_MINOR * 256 + VERSION_PATCH;
+
+#[no_mangle]
+pub extern "C" fn vvc_version() -> u32
+    ensures { λ r. ⌜ r ≡ versionOf 0 2 0 ⌝ }
+{
+    VERSION
+}
 
 #[repr(C)]
 pub struct VvcByteCount {
@@ -183,7 +200,9 @@ pub extern "C" fn vvc_put_bit(w: Sink, out: &mut [u8], bit: u32) -> Sink
 
 #[no_mangle]
 pub extern "C" fn vvc_put_bits(w: Sink, out: &mut [u8], value: u32, n: u32) -> Sink
-    ensures { λ r. ⌜ sinkOver r (now (out .exit)) ≡ play (sinkOver w (now (out .entry))) (putting (toBits (min n 32) value)) ⌝ }
+    ensures { λ r.
+        ⌜ sinkOver r (now (out .exit))
+        ≡ play (sinkOver w (now (out .entry))) (putting (toBits (min n 32) value)) ⌝ }
 {
     bit_writer::put_bits(w, out, value, n)
 }
@@ -211,7 +230,9 @@ pub extern "C" fn vvc_put_copy(
     from: usize,
     count: usize,
 ) -> Sink
-    ensures { λ r. ⌜ sinkOver r (now (out .exit)) ≡ play (sinkOver w (now (out .entry))) (putting (bitList (now (bytes .entry)) from count)) ⌝ }
+    ensures { λ r.
+        ⌜ sinkOver r (now (out .exit))
+        ≡ play (sinkOver w (now (out .entry))) (putting (bitList (now (bytes .entry)) from count)) ⌝ }
 {
     bit_writer::copy::put_copy(w, out, bytes, from, count)
 }

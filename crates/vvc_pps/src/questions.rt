@@ -1,34 +1,37 @@
-// The questions on a record: its tile grid, its slice plan, and what its slices cover. An enum doesn't cross, so the cover answer is a kind with its values beside it.
+// The questions on a record: its tile grid, its slice plan, and what its slices cover. An enum doesn't cross, so the
+// cover answer is a kind with its values beside it.
 ghost use mathlib.Core.Path.{_≡_};
-ghost use Rattle.pps_syntax.specs.SliceTables.{sliceTables};
-ghost use Rattle.question_tests.specs.Questions.{layoutAsked};
-ghost use Rattle.question_tests.specs.Tables.{lent};
-ghost use Rattle.tile_grid.specs.GridQuestion.{gridAnswerOf};
-ghost use Rattle.tile_grid.specs.PlanQuestion.{planAnswerOf};
-ghost use Rattle.vvc_pps.specs.QuestionAnswers.{gridHeld, planHeld, coverHeld, RightHeld};
+ghost use Rattle.pps_tables.specs.Parameters.{before};
+ghost use Rattle.tile_grid.specs.GridQuestion.{ofRecord};
+ghost use Rattle.tile_grid.specs.PlanQuestion.{slicePlan, SliceCover};
+ghost use Rattle.vvc_pps.specs.QuestionAnswers.{gridHeld, planHeld, coverHeld, Holds};
 use pps_record::VvcPps;
+use pps_tables::ENTRY_LEN;
 use tile_grid::CoverAnswer;
 use tile_grid::GridAnswer;
 use tile_grid::PlanAnswer;
 use tile_grid::TileGrid;
+use tile_sizes::MAX_SLICES;
+use tile_sizes::MAX_TILE_COLUMNS;
+use tile_sizes::MAX_TILES;
 
 #[repr(C)]
 pub struct VvcGridAnswer {
     pub refused: u8,
     pub num_tile_columns: u32,
     pub num_tile_rows: u32,
-    pub column_widths: [u32; 30],
-    pub row_heights: [u32; 990],
+    pub column_widths: [u32; MAX_TILE_COLUMNS as usize],
+    pub row_heights: [u32; MAX_TILES as usize],
 }
 
 #[repr(C)]
 pub struct VvcPlanAnswer {
     pub refused: u8,
     pub num_slices: u32,
-    pub left: [u32; 1000],
-    pub top: [u32; 1000],
-    pub width: [u32; 1000],
-    pub height: [u32; 1000],
+    pub left: [u32; MAX_SLICES as usize],
+    pub top: [u32; MAX_SLICES as usize],
+    pub width: [u32; MAX_SLICES as usize],
+    pub height: [u32; MAX_SLICES as usize],
 }
 
 // `refused` beside the kind REFUSED, `tile` beside GAP and DOUBLE; else they are 0.
@@ -71,27 +74,19 @@ pub extern "C" fn vvc_tile_grid(
     subpic_ids: &[u32],
     tile_column_widths: &[u32],
     tile_row_heights: &[u32],
-    slice_widths: &[u32],
-    slice_heights: &[u32],
-    split_present: &[u8],
-    split_counts: &[u32],
-    delta_present: &[u8],
-    deltas: &[i32],
+    entries: &[[u32; ENTRY_LEN]],
     split_heights: &[u32],
 ) -> VvcGridAnswer
-    ensures { λ r. ⌜ r ≡ gridHeld (gridAnswerOf (layoutAsked pps (lent (now («subpic_ids» .entry)) (now («tile_column_widths» .entry)) (now («tile_row_heights» .entry)) (sliceTables (now («slice_widths» .entry)) (now («slice_heights» .entry)) (now («split_present» .entry)) (now («split_counts» .entry)) (now («delta_present» .entry)) (now (deltas .entry)) (now («split_heights» .entry)))))) ⌝ }
+    ensures { λ r.
+        let given = before «subpic_ids» «tile_column_widths» «tile_row_heights» entries «split_heights» in
+        ⌜ r ≡ gridHeld (ofRecord pps given) ⌝ }
 {
     of_grid(TileGrid::of_record(
         pps,
         subpic_ids,
         tile_column_widths,
         tile_row_heights,
-        slice_widths,
-        slice_heights,
-        split_present,
-        split_counts,
-        delta_present,
-        deltas,
+        entries,
         split_heights,
     ))
 }
@@ -120,27 +115,19 @@ pub extern "C" fn vvc_slice_plan(
     subpic_ids: &[u32],
     tile_column_widths: &[u32],
     tile_row_heights: &[u32],
-    slice_widths: &[u32],
-    slice_heights: &[u32],
-    split_present: &[u8],
-    split_counts: &[u32],
-    delta_present: &[u8],
-    deltas: &[i32],
+    entries: &[[u32; ENTRY_LEN]],
     split_heights: &[u32],
 ) -> VvcPlanAnswer
-    ensures { λ r. ⌜ r ≡ planHeld (planAnswerOf (layoutAsked pps (lent (now («subpic_ids» .entry)) (now («tile_column_widths» .entry)) (now («tile_row_heights» .entry)) (sliceTables (now («slice_widths» .entry)) (now («slice_heights» .entry)) (now («split_present» .entry)) (now («split_counts» .entry)) (now («delta_present» .entry)) (now (deltas .entry)) (now («split_heights» .entry)))))) ⌝ }
+    ensures { λ r.
+        let given = before «subpic_ids» «tile_column_widths» «tile_row_heights» entries «split_heights» in
+        ⌜ r ≡ planHeld (slicePlan pps given) ⌝ }
 {
-    of_plan(TileGrid::plan(
+    of_plan(TileGrid::slice_plan(
         pps,
         subpic_ids,
         tile_column_widths,
         tile_row_heights,
-        slice_widths,
-        slice_heights,
-        split_present,
-        split_counts,
-        delta_present,
-        deltas,
+        entries,
         split_heights,
     ))
 }
@@ -184,27 +171,19 @@ pub extern "C" fn vvc_cover(
     subpic_ids: &[u32],
     tile_column_widths: &[u32],
     tile_row_heights: &[u32],
-    slice_widths: &[u32],
-    slice_heights: &[u32],
-    split_present: &[u8],
-    split_counts: &[u32],
-    delta_present: &[u8],
-    deltas: &[i32],
+    entries: &[[u32; ENTRY_LEN]],
     split_heights: &[u32],
 ) -> VvcCoverAnswer
-    ensures { λ r. ⌜ RightHeld (layoutAsked pps (lent (now («subpic_ids» .entry)) (now («tile_column_widths» .entry)) (now («tile_row_heights» .entry)) (sliceTables (now («slice_widths» .entry)) (now («slice_heights» .entry)) (now («split_present» .entry)) (now («split_counts» .entry)) (now («delta_present» .entry)) (now (deltas .entry)) (now («split_heights» .entry))))) r ⌝ }
+    ensures { λ r.
+        let given = before «subpic_ids» «tile_column_widths» «tile_row_heights» entries «split_heights» in
+        ⌜ Holds (SliceCover pps given) r ⌝ }
 {
-    of_cover(TileGrid::cover(
+    of_cover(TileGrid::slice_cover(
         pps,
         subpic_ids,
         tile_column_widths,
         tile_row_heights,
-        slice_widths,
-        slice_heights,
-        split_present,
-        split_counts,
-        delta_present,
-        deltas,
+        entries,
         split_heights,
     ))
 }

@@ -7,9 +7,11 @@ use Rattle.partition.specs.Slices.{Slice}
 use Rattle.pps_record.specs.Absent.{noPartition}
 use Rattle.pps_record.specs.declared.VvcPps.{VvcPps}
 use Rattle.pps_record.specs.declared.VvcPpsPartition.{VvcPpsPartition}
-use Rattle.pps_syntax.specs.FromRecord.{Lent}
-use Rattle.pps_syntax.specs.SliceTables.{sliceTables}
-use Rattle.question_tests.specs.Tables.{lent}
+use Rattle.partition.specs.Grid.{maxTileColumns, maxTiles, maxSlicesMinus1, maxSlices}
+use Rattle.pps_syntax.specs.FromRecord.{Lent, lent}
+use Rattle.pps_syntax.specs.SliceTables.{sliceTables, bitsOfDelta}
+use Rattle.pps_syntax.specs.SubpicIds.{maxSubpics}
+use Rattle.pps_tables.specs.Rows.{noEntry}
 
 -- ---- records
 
@@ -81,27 +83,25 @@ slicing N deltas entries =
 unfoldable pub places : {A : Type 0} → ℕ → A → List A → List A
 places n z l = l ++ replicate (n - length l) z
 
--- A column width and a row height minus 1; then of the entries the widths and heights minus 1, whether they are split, into how many explicit heights, whether they have deltas, the
--- deltas, and the split heights minus 1.
-abbrev pub tablesOf : ℕ → ℕ → List ℕ → List ℕ → List ℕ → List ℕ → List ℕ → List ℤ → List ℕ → Lent
-tablesOf w h ws hs sp sc dp ds sh =
-    lent (places 1000 0 []) (places 30 0 (w ∷ [])) (places 990 0 (h ∷ []))
-    (sliceTables (places 999 0 ws) (places 999 0 hs) (places 999 0 sp) (places 999 0 sc) (places 999 0 dp) (places 999 (pos 0) ds) (places 1000 0 sh))
+-- A column width and a row height minus 1; then the rows of the entries, and the split heights minus 1.
+abbrev pub tablesOf : ℕ → ℕ → List (List ℕ) → List ℕ → Lent
+tablesOf w h entries heights =
+    lent (places maxSubpics 0 []) (places maxTileColumns 0 (w ∷ [])) (places maxTiles 0 (h ∷ [])) (sliceTables (places maxSlicesMinus1 noEntry entries) (places maxSlices 0 heights))
 
 -- All numbers 0: tiles of one CTB, and entries of one tile.
 abbrev pub zeroTables : Lent
-zeroTables = tablesOf 0 0 [] [] [] [] [] [] []
+zeroTables = tablesOf 0 0 [] []
 
 abbrev pub noTables : Lent
-noTables = lent [] [] [] (sliceTables [] [] [] [] [] [] [])
+noTables = lent [] [] [] (sliceTables [] [])
 
 -- One tile of one column and a row of 7 CTBs, its entry split into these explicit heights minus 1.
 abbrev pub rowOf7 : List ℕ → Lent
-rowOf7 heights = tablesOf 0 6 [] [] (1 ∷ []) (length heights ∷ []) [] [] heights
+rowOf7 heights = tablesOf 0 6 ((0 ∷ 0 ∷ 1 ∷ length heights ∷ 0 ∷ 0 ∷ []) ∷ []) heights
 
 -- Tiles of one CTB, and two entries of one column: one tile, then one over two rows; with these deltas.
-abbrev pub withDeltas : List ℤ → Lent
-withDeltas ds = tablesOf 0 0 [] (0 ∷ 1 ∷ []) [] [] (1 ∷ 1 ∷ []) ds []
+abbrev pub withDeltas : ℤ → ℤ → Lent
+withDeltas d e = tablesOf 0 0 ((0 ∷ 0 ∷ 0 ∷ 0 ∷ 1 ∷ bitsOfDelta d ∷ []) ∷ (0 ∷ 1 ∷ 0 ∷ 0 ∷ 1 ∷ bitsOfDelta e ∷ []) ∷ []) []
 
 abbrev pub slice : ℕ → ℕ → ℕ → ℕ → Slice
 slice l t w h = record { left = l; top = t; width = w; height = h }

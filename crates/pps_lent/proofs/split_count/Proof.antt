@@ -4,10 +4,10 @@ use Rattle.pps_lent.proofs.split_count.Statement.{statement}
 use Rattle.pps_lent.proofs.split_count.Tie as tie
 
 returns : tie.Need-returns
-returns c = count-none (now (c .before .before .before .before .before .args .split-present)) (now (c .before .before .before .before .before .args .split-counts)) (c .before .before .before .before .before .args .i) (c .before .before .at-u8 .ensures) (c .if1 .taken)
+returns c = count-none (now (c .before .before .before .args .entries)) (c .before .before .before .args .i) (c .before .before .entry-at .ensures) (c .if1 .taken)
 
 returns-2 : tie.Need-returns-2
-returns-2 c = count-some (now (c .before .before .before .before .before .args .split-present)) (now (c .before .before .before .before .before .args .split-counts)) (c .before .before .before .before .before .args .i) (c .before .before .at-u8 .ensures) (c .before .at-u32 .ensures) (c .if1 .left)
+returns-2 c = count-some (now (c .before .before .before .args .entries)) (c .before .before .before .args .i) (c .before .before .entry-at .ensures) (c .if1 .left)
 
 pub split-count-spec : {M : Type 1} → statement M
-split-count-spec = tie.close (tie.spec (λ _ _. tt) (λ _ _. tt) returns returns-2)
+split-count-spec = tie.close (tie.spec (λ _ _. tt) returns returns-2)

@@ -5,10 +5,10 @@ use Rattle.pps_lent.proofs.split_total_fits.Statement.{statement}
 use Rattle.pps_lent.proofs.split_total_fits.Tie as tie
 
 abbrev Inv-loop : tie.InvT-loop
-Inv-loop sp sc n left₀ i₀ left i = Left (splitTables sp sc) n i left
+Inv-loop entries n left₀ i₀ left i = Left (splitTables entries) n i left
 
 abbrev μ-loop : tie.MeasureT-loop
-μ-loop sp sc n left₀ i₀ left i = n - i
+μ-loop entries n left₀ i₀ left i = n - i
 
 loop-holds : tie.Need-loop-holds Inv-loop μ-loop
 loop-holds c = left-start _ _

@@ -14,27 +14,27 @@ demand-requires c κs = search needs
 read-tile-sizes-requires : tie.Need-read-tile-sizes-requires
 read-tile-sizes-requires c κs = search needs
 
-grid-of-requires : tie.Need-grid-of-requires
-grid-of-requires c κs = search needs
+sizes-in-tables-requires : tie.Need-sizes-in-tables-requires
+sizes-in-tables-requires c κs = search needs
 
 demand-requires-2 : tie.Need-demand-requires-2
 demand-requires-2 c κs = search needs
 
 read-in-grid-requires : tie.Need-read-in-grid-requires
 read-in-grid-requires c κs =
-    let a = c .before .before .before .before .before .before .before .before .before .before .before .before .before .before .before .before .before .before .before .before .before .before .before .before .before .before .before .before .before .before .before .args in
+    let a = c .before .before .before .before .before .before .before .before .before .before .before .before .before .before .before .before .before .before .before .before .before .args in
     let l = length (a .split-heights .now) in
-    let S = stored-from (a .width) (a .height) (a .s .now) (a .c) l (a .tile-column-widths .now) (a .tile-row-heights .now) _ _ _ _ _ _ _ _ (c .before .before .before .before .before .before .before .before .before .before .before .before .before .before .before .before .before .before .before .before .before .tables-long .ensures) (c .before .before .before .before .before .before .before .before .before .before .before .before .before .before .before .before .before .before .before .before .demand .ensures) (c .before .before .before .before .before .before .before .before .before .before .before .before .before .before .before .before .before .read-tile-sizes .ensures) in
-    grid-tested (a .width) (a .height) (a .s .now) (a .c) l (a .tile-column-widths .now) (a .tile-row-heights .now) _ _ _ _ _ _ (c .before .before .before .before .before .before .before .before .before .before .grid-of .result) _ S (c .before .before .before .before .before .before .before .before .before .before .grid-of .ensures) (c .before .before .before .before .before .before .before .before .demand2 .ensures) .ready
+    let S = stored-from (a .width) (a .height) (a .s .now) (a .c) l (a .tile-column-widths .now) (a .tile-row-heights .now) _ _ _ _ _ _ _ _ (c .before .before .before .before .before .before .before .before .before .before .before .before .before .before .before .before .tables-long .ensures) (c .before .before .before .before .before .before .before .before .before .before .before .before .before .before .before .demand .ensures) (c .before .before .before .before .before .before .before .before .before .before .before .before .read-tile-sizes .ensures) in
+    grid-tested (a .width) (a .height) (a .s .now) (a .c) l (a .tile-column-widths .now) (a .tile-row-heights .now) _ _ _ _ _ _ (c .before .before .before .before .before .sizes-in-tables .result) _ S (c .before .before .before .before .before .sizes-in-tables .ensures) (c .before .before .before .demand2 .ensures) .ready
 
 partition-of-requires : tie.Need-partition-of-requires
 partition-of-requires c κs = search needs
 
 same-length : tie.Need-same-length
-same-length c = columns-long (c .before .before .before .before .before .before .before .before .before .before .before .before .before .before .before .before .before .before .before .before .before .before .before .before .before .before .before .before .before .before .before .before .read-tile-sizes .ensures) .0
+same-length c = columns-long (c .before .before .before .before .before .before .before .before .before .before .before .before .before .before .before .before .before .read-tile-sizes .ensures) .0
 
 same-length-2 : tie.Need-same-length-2
-same-length-2 c = columns-long (c .before .before .before .before .before .before .before .before .before .before .before .before .before .before .before .before .before .before .before .before .before .before .before .before .before .before .before .before .before .before .before .before .read-tile-sizes .ensures) .1
+same-length-2 c = columns-long (c .before .before .before .before .before .before .before .before .before .before .before .before .before .before .before .before .before .read-tile-sizes .ensures) .1
 
 same-length-3 : tie.Need-same-length-3
 same-length-3 c = search needs
@@ -42,29 +42,14 @@ same-length-3 c = search needs
 same-length-4 : tie.Need-same-length-4
 same-length-4 c = search needs
 
-same-length-5 : tie.Need-same-length-5
-same-length-5 c = search needs
-
-same-length-6 : tie.Need-same-length-6
-same-length-6 c = search needs
-
-same-length-7 : tie.Need-same-length-7
-same-length-7 c = search needs
-
-same-length-8 : tie.Need-same-length-8
-same-length-8 c = search needs
-
-same-length-9 : tie.Need-same-length-9
-same-length-9 c = search needs
-
 returns : tie.Need-returns
 returns c =
-    let a = c .before .before .before .before .before .before .before .before .before .before .before .before .before .before .before .before .before .before .before .before .before .before .before .before .before .before .before .before .before .before .before .before .before .before .before .before .before .before .before .before .before .before .before .before .before .before .args in
+    let a = c .before .before .before .before .before .before .before .before .before .before .before .before .before .before .before .before .before .before .before .before .before .before .before .before .before .before .args in
     let l = length (a .split-heights .now) in
-    let S = stored-from (a .width) (a .height) (a .s .now) (a .c) l (a .tile-column-widths .now) (a .tile-row-heights .now) _ _ _ _ _ _ _ _ (c .before .before .before .before .before .before .before .before .before .before .before .before .before .before .before .before .before .before .before .before .before .before .before .before .before .before .before .before .before .before .before .before .before .before .before .before .tables-long .ensures) (c .before .before .before .before .before .before .before .before .before .before .before .before .before .before .before .before .before .before .before .before .before .before .before .before .before .before .before .before .before .before .before .before .before .before .before .demand .ensures) (c .before .before .before .before .before .before .before .before .before .before .before .before .before .before .before .before .before .before .before .before .before .before .before .before .before .before .before .before .before .before .before .before .read-tile-sizes .ensures) in
-    let G = grid-tested (a .width) (a .height) (a .s .now) (a .c) l (a .tile-column-widths .now) (a .tile-row-heights .now) _ _ _ _ _ _ (c .before .before .before .before .before .before .before .before .before .before .before .before .before .before .before .before .before .before .before .before .before .before .before .before .before .grid-of .result) _ S (c .before .before .before .before .before .before .before .before .before .before .before .before .before .before .before .before .before .before .before .before .before .before .before .before .before .grid-of .ensures) (c .before .before .before .before .before .before .before .before .before .before .before .before .before .before .before .before .before .before .before .before .before .before .before .demand2 .ensures) in
-    partition-made (a .width) (a .height) (a .s .now) (a .c) l (a .tile-column-widths .now) (a .tile-row-heights .now) _ _ _ _ _ _ _ _ _ _ (c .before .before .before .before .before .before .before .before .before .before .before .before .before .before .read-in-grid .result) _ S G
-    (c .before .before .before .before .before .before .before .before .before .before .before .before .before .before .read-in-grid .ensures _ (G .gridIs)) (c .partition-of .ensures)
+    let S = stored-from (a .width) (a .height) (a .s .now) (a .c) l (a .tile-column-widths .now) (a .tile-row-heights .now) _ _ _ _ _ _ _ _ (c .before .before .before .before .before .before .before .before .before .before .before .before .before .before .before .before .before .before .before .before .before .tables-long .ensures) (c .before .before .before .before .before .before .before .before .before .before .before .before .before .before .before .before .before .before .before .before .demand .ensures) (c .before .before .before .before .before .before .before .before .before .before .before .before .before .before .before .before .before .read-tile-sizes .ensures) in
+    let G = grid-tested (a .width) (a .height) (a .s .now) (a .c) l (a .tile-column-widths .now) (a .tile-row-heights .now) _ _ _ _ _ _ (c .before .before .before .before .before .before .before .before .before .before .sizes-in-tables .result) _ S (c .before .before .before .before .before .before .before .before .before .before .sizes-in-tables .ensures) (c .before .before .before .before .before .before .before .before .demand2 .ensures) in
+    partition-made (a .width) (a .height) (a .s .now) (a .c) l (a .tile-column-widths .now) (a .tile-row-heights .now) _ _ _ _ _ _ _ _ _ _ (c .before .before .before .before .read-in-grid .result) _ S G
+    (c .before .before .before .before .read-in-grid .ensures _ (G .gridIs)) (c .partition-of .ensures)
 
 pub read-partition-spec : {M : Type 1} → statement M
 read-partition-spec =
@@ -73,7 +58,7 @@ read-partition-spec =
     tables-long-requires
     demand-requires
     read-tile-sizes-requires
-    grid-of-requires
+    sizes-in-tables-requires
     demand-requires-2
     read-in-grid-requires
     partition-of-requires
@@ -81,9 +66,4 @@ read-partition-spec =
     same-length-2
     same-length-3
     same-length-4
-    same-length-5
-    same-length-6
-    same-length-7
-    same-length-8
-    same-length-9
     returns)

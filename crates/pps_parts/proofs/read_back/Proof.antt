@@ -25,9 +25,9 @@ read-picture-header-requires c κs = search needs
 returns : tie.Need-returns
 unfolding back
 returns c =
-    let t = c .before .before .before .before .before .before .before .before .before .read-chroma .ensures in
+    let t = c .before .before .before .before .before .before .before .before .before .before .read-chroma .ensures in
     let p = parse chroma (now (c .before .before .before .before .before .before .before .before .before .before .before .before .before .before .args .s)) (c .before .before .before .before .before .before .before .before .before .before .before .before .read-references .result .next) in
-    back-made _ p
+    back-made p
     (reads-done _ _ _
     ∙ reads _ _ _ _ (c .before .before .read-picture-header .ensures)
     ∙ reads _ _ _ _ (behind-chroma _ _ p (t .0) (t .1 .0) (c .before .before .before .before .before .before .read-deblocking .ensures))

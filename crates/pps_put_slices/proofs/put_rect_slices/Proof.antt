@@ -1,83 +1,87 @@
-use Rattle.pps_put_slices.specs.Held.{Held, held-begins, held-ends, held-short, held-stops, held-more, held-small, slices-made, slices-none, limited}
-use Rattle.pps_put_slices.specs.Tabled.{count-is}
-use Rattle.pps_slices.specs.Limits.{gridOf}
-use Rattle.pps_syntax.specs.SliceTables.{sliceTables}
-use Rattle.bit_writer.specs.Writing.{sinkOver}
-use lib.ListN.{length}
-use native.Mathlib.Omega.{arith}
+use Prim.Native.Nat.{_<_, _*_, _-_, _^_}
 use mathlib.Core.Path.{_≡_, refl, _∙_}
 use mathlib.Core.List.{[]}
-use Prim.Native.Nat.{_-_}
+use native.Mathlib.Omega.{arith}
+use denote.Ref.{now}
+use lib.ListN.{length}
+use Rattle.partition.specs.Grid.{gridOf}
+use Rattle.bit_writer.specs.Writing.{sinkOver}
+use Rattle.pps_syntax.specs.SliceTables.{sliceTables}
+use Rattle.pps_put_slices.specs.Held.{Held, held-begins, held-ends, held-short, held-stops, held-more, held-small, slices-made, slices-none, limited}
+use Rattle.pps_put_slices.specs.Tabled.{part-within, part-few, slice-at, entry-tabled}
 use Rattle.pps_put_slices.proofs.put_rect_slices.Statement.{statement}
 use Rattle.pps_put_slices.proofs.put_rect_slices.Tie as tie
 
 abbrev Inv-loop : tie.InvT-loop
-Inv-loop out₀ column-widths row-heights deltas-coded n count widths heights split-present split-counts delta-present deltas split-heights within ctx cur₀ slice₀ tile₀ i₀ from₀ out cur slice tile i from = (length out ≡ length out₀) × Held (gridOf column-widths row-heights) deltas-coded (n .0) (sliceTables widths heights split-present split-counts delta-present deltas split-heights) count (sinkOver cur₀ out₀) (sinkOver cur out) (slice .0) (tile .0) i from
+Inv-loop out₀ column-widths row-heights deltas-coded n count entries split-heights within ctx cur₀ slice₀ tile₀ i₀ from₀ out cur slice tile i from =
+    (length out ≡ length out₀)
+    × Held (gridOf column-widths row-heights) deltas-coded (n .0) (sliceTables entries split-heights) count (sinkOver cur₀ out₀) (sinkOver cur out) (slice .0) (tile .0) i from
 
 abbrev μ-loop : tie.MeasureT-loop
-μ-loop out₀ column-widths row-heights deltas-coded n count widths heights split-present split-counts delta-present deltas split-heights within ctx cur₀ slice₀ tile₀ i₀ from₀ out cur slice tile i from = n .0 - i
-
-within-limits-requires : tie.Need-within-limits-requires Inv-loop μ-loop
-within-limits-requires c κs = tt
-
-demand-requires : tie.Need-demand-requires Inv-loop μ-loop
-demand-requires c κs = tt
+μ-loop out₀ column-widths row-heights deltas-coded n count entries split-heights within ctx cur₀ slice₀ tile₀ i₀ from₀ out cur slice tile i from = n .0 - i
 
 returns : tie.Need-returns Inv-loop μ-loop
 returns c = slices-none _ _ _ _ _ _ _ (c .before .before .before .within-limits .ensures) (c .before .before .demand .ensures _) (c .if1 .taken)
 
-cast-t27 : tie.Need-cast-t27 Inv-loop μ-loop
-cast-t27 c = omega (arith, limited _ _ _ (c .before .before .before .within-limits .ensures) (c .before .before .demand .ensures []) (c .if1 .left) .few)
+cast-t25 : tie.Need-cast-t25 Inv-loop μ-loop
+cast-t25 c = omega (arith, limited _ _ _ (c .before .before .before .within-limits .ensures) (c .before .before .demand .ensures []) (c .if1 .left) .few)
 
-cast-t28 : tie.Need-cast-t28 Inv-loop μ-loop
-cast-t28 c = omega (arith, limited _ _ _ (c .before .before .before .within-limits .ensures) (c .before .before .demand .ensures []) (c .if1 .left) .low)
+cast-t26 : tie.Need-cast-t26 Inv-loop μ-loop
+cast-t26 c = omega (arith, limited _ _ _ (c .before .before .before .within-limits .ensures) (c .before .before .demand .ensures []) (c .if1 .left) .low)
 
 loop-holds : tie.Need-loop-holds Inv-loop μ-loop
 loop-holds c = (refl, held-begins _ _ _ _ _ _)
 
-demand-requires-2 : tie.Need-demand-requires-2 Inv-loop μ-loop
-demand-requires-2 c κs = tt
-
 same-length : tie.Need-same-length Inv-loop μ-loop
-same-length c = c .before .before .before .before .before .loop .inv .0
+same-length c = (c .before .before .before .before .before .loop .inv .0)
 
 returns-2 : tie.Need-returns-2 Inv-loop μ-loop
 returns-2 c = slices-made _ _ _ _ _ _ _ (c .before .before .before .before .before .before .before .before .before .within-limits .ensures) (c .before .before .before .before .before .before .before .before .demand .ensures _) (held-short (c .before .before .before .before .before .loop .inv .1) (c .before .before .if2 .taken) (c .before .if3 .taken) (c .demand2 .ensures _))
 
-put-slice-at-requires : tie.Need-put-slice-at-requires Inv-loop μ-loop
-put-slice-at-requires c κs = let l = limited _ _ _ (c .before .before .before .before .before .before .before .before .before .within-limits .ensures) (c .before .before .before .before .before .before .before .before .demand .ensures []) (c .before .before .before .before .before .before .if1 .left) .tilesFit in omega (arith, l)
+mul-put-rect-slice : tie.Need-mul-put-rect-slice Inv-loop μ-loop
+mul-put-rect-slice c =
+    let l : length (now (c .before .before .before .before .before .before .before .before .before .before .before .before .before .before .before .before .before .args .split-heights)) * 4 < 2 ^ 63 = (c .before .before .before .before .before .before .before .before .before .before .before .before .before .before .before .before .before .good .1 .1 .1 .1 .1 .1 .1 .1 .0 .1) in
+    omega (arith, (c .before .before .before .before .before .before .before .before .loop .inv .1 .placeIs))
+
+sub-put-rect-slice : tie.Need-sub-put-rect-slice Inv-loop μ-loop
+sub-put-rect-slice c = omega (arith, (c .before .before .before .before .before .before .before .before .loop .inv .1 .placeIs), (c .before .place-after .ensures))
+
+part-put-rect-slice-end : tie.Need-part-put-rect-slice-end Inv-loop μ-loop
+part-put-rect-slice-end c = part-within _ _ _ _ (c .before .place-after .ensures)
+
+put-rect-slice-requires : tie.Need-put-rect-slice-requires Inv-loop μ-loop
+put-rect-slice-requires c κs =
+    let l = limited _ _ _ (c .before .before .before .before .before .before .before .before .before .before .before .before .before .within-limits .ensures) (c .before .before .before .before .before .before .before .before .before .before .before .before .demand .ensures []) (c .before .before .before .before .before .before .before .before .before .before .if1 .left) .tilesFit in
+    let few = part-few (c .before .before .before .before .before .before .before .before .before .before .before .before .before .before .before .before .before .before .args .split-heights .now) _ (c .before .before .before .before .before .before .before .before .before .loop .from) _ _ (c .before .before .place-after .ensures) in
+    (omega (arith, few), omega (arith, l))
 
 same-length-2 : tie.Need-same-length-2 Inv-loop μ-loop
-same-length-2 c = c .before .before .before .before .before .put-slice-at .kept .1 .0 ∙ c .before .before .before .before .before .before .before .before .before .before .before .loop .inv .0
+same-length-2 c = (c .before .before .before .before .before .put-rect-slice .kept .1 .0) ∙ (c .before .before .before .before .before .before .before .before .before .before .before .before .before .before .before .loop .inv .0)
 
 returns-3 : tie.Need-returns-3 Inv-loop μ-loop
-returns-3 c = let E = c .before .before .before .before .before .put-slice-at .ensures (gridOf (c .before .before .before .before .before .before .before .before .before .before .before .before .before .before .before .before .before .before .before .before .before .before .before .before .before .args .column-widths .now) (c .before .before .before .before .before .before .before .before .before .before .before .before .before .before .before .before .before .before .before .before .before .before .before .before .before .args .row-heights .now)) (c .before .before .before .before .before .before .before .before .before .before .before .loop .inv .1 .at .precedingHeightMinus1) (record { columnsAre = refl; rowsAre = refl; heightsAre = refl }) in
-    slices-made _ _ _ _ _ _ _ (c .before .before .before .before .before .before .before .before .before .before .before .before .before .before .before .within-limits .ensures) (c .before .before .before .before .before .before .before .before .before .before .before .before .before .before .demand .ensures _) (held-stops (c .before .before .before .before .before .before .before .before .before .before .before .loop .inv .1) (c .before .before .before .before .before .before .before .before .if2 .taken) (c .before .before .before .before .before .before .before .if3 .left) E (c .if4 .taken))
-
-split-count-requires : tie.Need-split-count-requires Inv-loop μ-loop
-split-count-requires c κs = tt
-
-cast-from : tie.Need-cast-from Inv-loop μ-loop
-cast-from c = omega arith
-
-add-from : tie.Need-add-from Inv-loop μ-loop
-add-from c = let s = held-small (c .before .before .before .before .before .before .before .before .before .before .before .before .before .before .loop .inv .1) (c .before .before .before .before .before .before .before .before .before .before .before .if2 .taken) in omega (arith, s .0, s .1, c .before .before .before .before .before .before .before .before .before .before .before .before .before .struct-known2 .given, c .before .before .before .before .before .before .before .before .before .before .before .before .struct-known3 .given)
+returns-3 c =
+    let a = (c .before .before .before .before .before .before .before .before .before .before .before .before .before .before .before .before .before .before .before .before .before .before .before .before .args) in
+    let H = (c .before .before .before .before .before .before .before .before .before .before .before .before .before .before .before .loop .inv .1) in
+    let row = slice-at (sliceTables (a .entries .now) (a .split-heights .now)) (c .before .before .before .before .before .before .before .before .before .before .before .before .before .before .before .loop .i) (H .place) (c .before .before .before .before .before .before .before .before .before .before .entry-at .ensures) (c .before .before .before .before .before .before .before .before .before .split-count .ensures) (H .placeIs) (c .before .before .before .before .before .before .before .before .place-after .ensures) in
+    let E = (c .before .before .before .before .before .put-rect-slice .ensures) (gridOf (a .column-widths .now) (a .row-heights .now)) (H .at .precedingHeightMinus1) (record { columnsAre = refl; rowsAre = refl; heightsAre = refl }) in
+    slices-made _ _ _ _ _ _ _ (c .before .before .before .before .before .before .before .before .before .before .before .before .before .before .before .before .before .before .before .within-limits .ensures) (c .before .before .before .before .before .before .before .before .before .before .before .before .before .before .before .before .before .before .demand .ensures _) (held-stops H (c .before .before .before .before .before .before .before .before .before .before .before .before .if2 .taken) (c .before .before .before .before .before .before .before .before .before .before .before .if3 .left) (entry-tabled row E) (c .if4 .taken))
 
 add-i : tie.Need-add-i Inv-loop μ-loop
-add-i c = let s = held-small (c .before .before .before .before .before .before .before .before .before .before .before .before .before .before .loop .inv .1) (c .before .before .before .before .before .before .before .before .before .before .before .if2 .taken) in omega (arith, s .0, c .before .before .before .before .before .before .before .before .before .before .before .before .before .struct-known2 .given, c .before .before .before .before .before .before .before .before .before .before .before .before .struct-known3 .given)
+add-i c = omega (arith, held-small (c .before .before .before .before .before .before .before .before .before .before .before .before .before .before .before .before .before .loop .inv .1) (c .before .before .before .before .before .before .before .before .before .before .before .before .before .before .if2 .taken))
 
 loop-less : tie.Need-loop-less Inv-loop μ-loop
-loop-less c = let s = held-small (c .before .before .before .before .before .before .before .before .before .before .before .before .before .before .loop .inv .1) (c .before .before .before .before .before .before .before .before .before .before .before .if2 .taken) in omega (arith, s .0)
+loop-less c = omega (arith, held-small (c .before .before .before .before .before .before .before .before .before .before .before .before .before .before .before .before .before .loop .inv .1) (c .before .before .before .before .before .before .before .before .before .before .before .before .before .before .if2 .taken))
 
 loop-again : tie.Need-loop-again Inv-loop μ-loop
-loop-again c = let E = c .before .before .before .before .before .before .before .before .put-slice-at .ensures (gridOf (c .before .before .before .before .before .before .before .before .before .before .before .before .before .before .before .before .before .before .before .before .before .before .before .before .before .before .before .before .args .column-widths .now) (c .before .before .before .before .before .before .before .before .before .before .before .before .before .before .before .before .before .before .before .before .before .before .before .before .before .before .before .before .args .row-heights .now)) (c .before .before .before .before .before .before .before .before .before .before .before .before .before .before .loop .inv .1 .at .precedingHeightMinus1) (record { columnsAre = refl; rowsAre = refl; heightsAre = refl }) in
-    (c .before .before .before .before .before .before .before .before .put-slice-at .kept .1 .0 ∙ c .before .before .before .before .before .before .before .before .before .before .before .before .before .before .loop .inv .0, held-more (c .before .before .before .before .before .before .before .before .before .before .before .before .before .before .loop .inv .1) (c .before .before .before .before .before .before .before .before .before .before .before .if2 .taken) (c .before .before .before .before .before .before .before .before .before .before .if3 .left) E (c .before .before .before .if4 .left) (count-is _ _ _ _ _ _ _ _ (c .split-count .ensures)) (omega arith))
-
-demand-requires-3 : tie.Need-demand-requires-3 Inv-loop μ-loop
-demand-requires-3 c κs = tt
+loop-again c =
+    let a = (c .before .before .before .before .before .before .before .before .before .before .before .before .before .before .before .before .before .before .before .before .before .before .before .before .before .before .args) in
+    let H = (c .before .before .before .before .before .before .before .before .before .before .before .before .before .before .before .before .before .loop .inv .1) in
+    let row = slice-at (sliceTables (a .entries .now) (a .split-heights .now)) (c .before .before .before .before .before .before .before .before .before .before .before .before .before .before .before .before .before .loop .i) (H .place) (c .before .before .before .before .before .before .before .before .before .before .before .before .entry-at .ensures) (c .before .before .before .before .before .before .before .before .before .before .before .split-count .ensures) (H .placeIs) (c .before .before .before .before .before .before .before .before .before .before .place-after .ensures) in
+    let E = (c .before .before .before .before .before .before .before .put-rect-slice .ensures) (gridOf (a .column-widths .now) (a .row-heights .now)) (H .at .precedingHeightMinus1) (record { columnsAre = refl; rowsAre = refl; heightsAre = refl }) in
+    ((c .before .before .before .before .before .before .before .put-rect-slice .kept .1 .0) ∙ (c .before .before .before .before .before .before .before .before .before .before .before .before .before .before .before .before .before .loop .inv .0), held-more H (c .before .before .before .before .before .before .before .before .before .before .before .before .before .before .if2 .taken) (c .before .before .before .before .before .before .before .before .before .before .before .before .before .if3 .left) (entry-tabled row E) (c .before .before .if4 .left) (c .before .before .before .before .before .before .before .before .before .before .before .split-count .ensures) (c .before .before .before .before .before .before .before .before .before .before .place-after .ensures))
 
 same-length-3 : tie.Need-same-length-3 Inv-loop μ-loop
-same-length-3 c = c .before .before .before .before .loop .inv .0
+same-length-3 c = (c .before .before .before .before .loop .inv .0)
 
 returns-4 : tie.Need-returns-4 Inv-loop μ-loop
 returns-4 c = slices-made _ _ _ _ _ _ _ (c .before .before .before .before .before .before .before .before .within-limits .ensures) (c .before .before .before .before .before .before .before .demand .ensures _) (held-ends (c .before .before .before .before .loop .inv .1) (c .before .if2 .left) (c .demand3 .ensures _))
@@ -88,24 +92,28 @@ put-rect-slices-spec =
     (tie.spec
     Inv-loop
     μ-loop
-    within-limits-requires
-    demand-requires
+    (λ _ _. tt)
+    (λ _ _. tt)
     returns
-    cast-t27
-    cast-t28
+    cast-t25
+    cast-t26
     loop-holds
-    demand-requires-2
+    (λ _ _. tt)
     same-length
     returns-2
-    put-slice-at-requires
+    (λ _ _. tt)
+    (λ _ _. tt)
+    (λ _ _. tt)
+    mul-put-rect-slice
+    sub-put-rect-slice
+    sub-put-rect-slice
+    part-put-rect-slice-end
+    put-rect-slice-requires
     same-length-2
     returns-3
-    split-count-requires
-    cast-from
-    add-from
     add-i
     loop-less
     loop-again
-    demand-requires-3
+    (λ _ _. tt)
     same-length-3
     returns-4)

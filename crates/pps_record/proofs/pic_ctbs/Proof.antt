@@ -21,7 +21,7 @@ in-ctbs-requires-2 c κs = search needs
 
 returns-3 : tie.Need-returns-3
 returns-3 c = let e : min (c .before .before .before .args .log2-ctu-size-minus5) 5 ≡ c .before .before .before .args .log2-ctu-size-minus5 = omega arith in
-    ctbs-partitioned _ _ _ _ (c .before .before .if1 .left) (c .before .if2 .left) (c .in-ctbs2 .ensures ∙ ap (inCtbs _) e)
+    ctbs-partitioned _ _ _ _ (c .before .before .if1 .left) (c .before .if2 .left) ((c .in-ctbs2 .ensures) ∙ ap (inCtbs _) e)
 
 pub pic-ctbs-spec : {M : Type 1} → statement M
 pic-ctbs-spec =

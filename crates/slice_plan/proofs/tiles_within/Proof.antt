@@ -1,3 +1,4 @@
+use borrow.Author.Needs.{needs}
 use native.Mathlib.Omega.{arith}
 use Rattle.question_tests.specs.Refusing.{tiles-few}
 use Rattle.slice_plan.specs.PlanLaws.{columns-over, rows-over, tiles-tested}
@@ -17,4 +18,4 @@ returns-3 : tie.Need-returns-3
 returns-3 c = tiles-tested _ _ (c .before .if1 .left) (c .if2 .left)
 
 pub tiles-within-spec : {M : Type 1} → statement M
-tiles-within-spec = tie.close (tie.spec returns returns-2 mul-tiles returns-3)
+tiles-within-spec = tie.close (tie.spec (λ c. search needs) returns (λ c. search needs) returns-2 mul-tiles (λ c. search needs) returns-3)

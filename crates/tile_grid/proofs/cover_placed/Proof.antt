@@ -1,5 +1,5 @@
 use borrow.Author.Tests.{not-true, not-false}
-use Rattle.tile_grid.specs.Covered.{cover-refused, cover-unplanned, cover-counted}
+use Rattle.tile_grid.specs.Covered.{cover-refused, cover-unplanned, cover-ready, cover-counted}
 use borrow.Author.Needs.{needs}
 use Rattle.tile_grid.proofs.cover_placed.Statement.{statement}
 use Rattle.tile_grid.proofs.cover_placed.Tie as tie
@@ -11,10 +11,10 @@ returns-2 : tie.Need-returns-2
 returns-2 c = cover-unplanned (c .before .before .before .before .args .laid) (c .before .before .if1 .left) (not-true _ (c .if2 .taken))
 
 slice-aggregate-cover-of : tie.Need-slice-aggregate-cover-of
-slice-aggregate-cover-of c = search needs
+slice-aggregate-cover-of c = let p = c .before .before .before .before .before .before .before .before .before .before .good .0 .1 .1 .1 .1 .1 .1 .0 .1 .1 .1 .1 .1 .1 .1 .1 .0 in search needs
 
 slice-aggregate-cover-of-2 : tie.Need-slice-aggregate-cover-of-2
-slice-aggregate-cover-of-2 c = search needs
+slice-aggregate-cover-of-2 c = let p = c .before .before .before .before .before .before .before .before .before .before .before .good .0 .1 .1 .1 .1 .1 .1 .0 .1 .1 .1 .1 .1 .1 .1 .1 .1 .0 in search needs
 
 slice-aggregate-cover-of-3 : tie.Need-slice-aggregate-cover-of-3
 slice-aggregate-cover-of-3 c = let p = c .before .before .before .before .before .before .before .before .before .before .before .before .good .0 .1 .1 .1 .1 .1 .1 .0 .1 .1 .1 .1 .1 .1 .1 .1 .1 .1 .0 in search needs
@@ -26,13 +26,10 @@ cast-cover-of : tie.Need-cast-cover-of
 cast-cover-of c = search needs
 
 cover-of-requires : tie.Need-cover-of-requires
-cover-of-requires c κs = search needs
-
-answer-named-requires : tie.Need-answer-named-requires
-answer-named-requires c κs = search needs
+cover-of-requires c κs = cover-ready (c .before .before .before .before .before .before .before .before .before .before .before .before .before .before .args .laid) (not-false _ (c .before .before .before .before .before .before .before .before .before .before .if2 .left)) (c .before .before .before .before .before .before .before .before .before .before .before .before .before .before .pre .0) (c .before .before .before .before .before .before .before .before .before .before .before .before .before .before .pre .1 .0) (c .before .before .before .before .before .before .before .before .before .before .before .before .before .before .pre .1 .1)
 
 returns-3 : tie.Need-returns-3
-returns-3 c = cover-counted (c .before .before .before .before .before .before .before .before .before .before .before .before .before .before .before .before .args .laid) (not-false _ (c .before .before .before .before .before .before .before .before .before .before .before .before .if2 .left)) _ (c .before .cover-of .ensures) _ (c .answer-named .ensures)
+returns-3 c = cover-counted (c .before .before .before .before .before .before .before .before .before .before .before .before .before .before .before .args .laid) (not-false _ (c .before .before .before .before .before .before .before .before .before .before .before .if2 .left)) _ (c .cover-of .ensures)
 
 pub cover-placed-spec : {M : Type 1} → statement M
 cover-placed-spec =
@@ -46,5 +43,4 @@ cover-placed-spec =
     slice-aggregate-cover-of-4
     cast-cover-of
     cover-of-requires
-    answer-named-requires
     returns-3)

@@ -14,7 +14,10 @@ same-length : tie.Need-same-length
 same-length c = search needs
 
 returns : tie.Need-returns
-returns c = (c .of-byte-count .ensures ∙ ap byteCount (c .before .before .before .ebsp-to-rbsp .ensures .0), c .before .before .before .ebsp-to-rbsp .ensures .1)
+returns c = (
+  c .of-byte-count .ensures ∙ ap byteCount (c .before .before .before .ebsp-to-rbsp .ensures .0),
+  c .before .before .before .ebsp-to-rbsp .ensures .1,
+)
 
 pub vvc-ebsp-to-rbsp-spec : {M : Type 1} → statement M
 vvc-ebsp-to-rbsp-spec =

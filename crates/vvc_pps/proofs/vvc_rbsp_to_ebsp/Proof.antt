@@ -14,7 +14,10 @@ same-length : tie.Need-same-length
 same-length c = search needs
 
 returns : tie.Need-returns
-returns c = (c .of-byte-count .ensures ∙ ap byteCount (c .before .before .before .rbsp-to-ebsp .ensures .0), c .before .before .before .rbsp-to-ebsp .ensures .1)
+returns c = (
+  c .of-byte-count .ensures ∙ ap byteCount (c .before .before .before .rbsp-to-ebsp .ensures .0),
+  c .before .before .before .rbsp-to-ebsp .ensures .1,
+)
 
 pub vvc-rbsp-to-ebsp-spec : {M : Type 1} → statement M
 vvc-rbsp-to-ebsp-spec =

@@ -23,9 +23,9 @@ returns c =
     let cr : SFits w32 (c .before .before .before .before .before .before .before .before .before .before .before .before .before .before .offset-or2 .result .value) = search needs in
     let value : SFits w32 (c .before .before .before .before .before .before .before .before .before .before .before .offset-or3 .result .value) = search needs in
     rw (toZ-ofZ cb, toZ-ofZ cr, toZ-ofZ value)
-    (chroma-made _ _
+    (chroma-made _
     (reads-done _ _ _
-    ∙ reads _ _ _ _ (triples-coded _ _ _ _ _ _ _ (c .before .before .before .before .before .before .counted .ensures) (c .before .before .before .before .read-triples .ensures .0))
+    ∙ reads _ _ _ _ (triples-coded _ _ _ _ _ _ _ (c .before .before .before .before .before .before .counted .ensures) (c .before .before .before .before .before .read-triples .ensures .0))
     ∙ reads-test _ _ _ _ _ _ (tested-behind _ _ _ (λ v. leb v 5) 21 0 refl (c .before .before .before .before .before .before .before .ue-at-most .ensures))
     ∙ reads _ _ _ _ (tested-number _ _ _ (λ v. leb v 5) 21 0 0 (c .before .before .before .before .before .before .before .ue-at-most .ensures))
     ∙ reads-past _ _ _ _ _
@@ -36,7 +36,7 @@ returns c =
     ∙ reads _ _ _ _ (c .before .before .before .before .before .before .before .before .before .before .before .before .before .before .offset-or2 .ensures)
     ∙ reads _ _ _ _ (c .before .before .before .before .before .before .before .before .before .before .before .before .before .before .before .offset-or .ensures)
     ∙ reads _ _ _ _ (byte-field _ _ 1 (c .before .before .before .before .before .before .before .before .before .before .before .before .before .before .before .before .before .flag .ensures)))
-    (c .before .before .before .before .read-triples .ensures .1))
+    (c .before .before .before .before .before .read-triples .ensures .1))
 
 pub read-chroma-spec : {M : Type 1} → statement M
 read-chroma-spec =

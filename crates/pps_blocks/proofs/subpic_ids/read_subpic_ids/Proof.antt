@@ -3,7 +3,7 @@ use mathlib.Core.Path.{refl, _∙_}
 use native.Mathlib.Omega.{arith}
 use lib.Dec.{leb, lit<}
 use Rattle.syntax.specs.ReadSteps.{reads-done, reads}
-use Rattle.pps_syntax.specs.SubpicIds.{subpicIds}
+use Rattle.pps_syntax.specs.SubpicIds.{subpicIds, maxSubpicsMinus1}
 use Rattle.pps_fields.specs.FieldReads.{byte-field, tested-or, tested-held, tested-small}
 use Rattle.pps_blocks.specs.IdReads.{ids-coded, mapping-made}
 use borrow.Author.Needs.{needs}
@@ -11,7 +11,7 @@ use Rattle.pps_blocks.proofs.subpic_ids.read_subpic_ids.Statement.{stat
 use Rattle.pps_blocks.proofs.subpic_ids.read_subpic_ids.Tie as tie
 
 counted-requires : tie.Need-counted-requires
-counted-requires c κs = tested-small _ _ _ (λ v. leb v 999) 8 0 (omega arith) (c .before .ue-at-most .ensures)
+counted-requires c κs = tested-small _ _ _ (λ v. leb v maxSubpicsMinus1) 8 0 (omega arith) (c .before .ue-at-most .ensures)
 
 add-read-ids : tie.Need-add-read-ids
 add-read-ids c = omega (arith, tested-small _ _ _ (λ v. leb v 15) 8 0 (omega arith) (c .before .before .ue-at-most2 .ensures))
@@ -27,7 +27,7 @@ returns c =
     (reads-done _ _ _
     ∙ reads _ _ _ _ (ids-coded _ _ _ _ _ _ _ (c .before .before .before .before .before .before .counted .ensures) held (c .before .before .before .read-ids .ensures .0))
     ∙ reads _ _ _ _ (tested-or _ _ _ (λ v. leb v 15) 8 (lit< tt) 0 0 (c .before .before .before .before .before .before .before .ue-at-most2 .ensures))
-    ∙ reads _ _ _ _ (tested-or _ _ _ (λ v. leb v 999) 8 (lit< tt) 0 _ (c .before .before .before .before .before .before .before .before .ue-at-most .ensures))
+    ∙ reads _ _ _ _ (tested-or _ _ _ (λ v. leb v maxSubpicsMinus1) 8 (lit< tt) 0 _ (c .before .before .before .before .before .before .before .before .ue-at-most .ensures))
     ∙ reads _ _ _ _ (byte-field _ _ 1 (c .before .before .before .before .before .before .before .before .before .before .flag .ensures)))
     (c .before .before .before .read-ids .ensures .1)
 

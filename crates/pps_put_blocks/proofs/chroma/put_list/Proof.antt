@@ -10,7 +10,7 @@ same-length : tie.Need-same-length
 same-length c = search needs
 
 returns : tie.Need-returns
-returns c = triples-made _ _ _ _ (c .before .before .before .before .before .before .before .args .rows) (c .before .before .before .before .before .before .before .good .1 .1 .1 .1 .1 .0 .1 .0 .1) (c .before .before .before .before .before .before .before .pre) (c .before .before .before .before .before .if1 .taken) (c .before .before .before .put-triples .ensures) (c .demand .ensures _)
+returns c = triples-made _ _ _ _ (c .before .before .before .before .before .before .before .args .triples) (c .before .before .before .before .before .before .before .good .1 .1 .1 .1 .1 .0 .1 .0 .1) (c .before .before .before .before .before .before .before .pre) (c .before .before .before .before .before .if1 .taken) (c .before .before .before .put-triples .ensures) (c .demand .ensures _)
 
 returns-2 : tie.Need-returns-2
 returns-2 c = triples-none _ _ _ _ _ (c .if1 .left)

@@ -2,7 +2,8 @@
 use mir.Facts.{toZ-ofZ}
 use mir.Syntax.{w32}
 use mir.Val.{SFits}
-use Rattle.pps_slices.specs.Entries.{position, entry-made}
+use Rattle.pps_slices.specs.Entries.{entry-made}
+use Rattle.slice_loop.specs.Loop.{position}
 use borrow.Author.Needs.{needs}
 use Rattle.pps_slices.proofs.entry.read_rect_slice.Statement.{statement}
 use Rattle.pps_slices.proofs.entry.read_rect_slice.Tie as tie

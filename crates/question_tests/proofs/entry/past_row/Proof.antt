@@ -5,11 +5,8 @@ use Rattle.tile_sizes.specs.declared.SlicesInTile.{SlicesInTile}
 use Rattle.question_tests.proofs.entry.past_row.Statement.{statement}
 use Rattle.question_tests.proofs.entry.past_row.Tie as tie
 
-num-slices-in-tile-requires : tie.Need-num-slices-in-tile-requires
-num-slices-in-tile-requires c κs = search needs
-
 returns : tie.Need-returns
 returns c = row-passed _ _ _ (ap (λ (s : SlicesInTile). s .refused) (c .before .num-slices-in-tile .ensures))
 
 pub past-row-spec : {M : Type 1} → statement M
-past-row-spec = tie.close (tie.spec num-slices-in-tile-requires returns)
+past-row-spec = tie.close (tie.spec (λ c κs. search needs) returns)

@@ -7,17 +7,8 @@ use Rattle.slice_plan.proofs.stack.unit_of.Tie as tie
 returns : tie.Need-returns
 returns c = unit-none _ _ (c .if1 .taken)
 
-sub-result : tie.Need-sub-result
-sub-result c = search needs
-
-mul-result : tie.Need-mul-result
-mul-result c = search needs
-
-shared-slice-read-result : tie.Need-shared-slice-read-result
-shared-slice-read-result c = search needs
-
-add-result : tie.Need-add-result
-add-result c = let f = last-fits-total (c .before .before .args .heights-minus1 .now) (c .before .before .args .total) (c .before .if1 .left) (c .before .before .pre) in omega arith
+add-unit : tie.Need-add-unit
+add-unit c = let f = last-fits-total (c .before .before .args .heights-minus1 .now) (c .before .before .args .total .0) (c .before .if1 .left) (c .before .before .pre) in omega arith
 
 returns-2 : tie.Need-returns-2
 returns-2 c = unit-last _ _ (c .before .if1 .left)
@@ -25,4 +16,4 @@ returns-2 c = unit-last _ _ (c .before .if1 .left)
 pub unit-of-spec : {M : Type 1} → statement M
 unit-of-spec =
     tie.close
-    (tie.spec returns sub-result mul-result shared-slice-read-result add-result returns-2)
+    (tie.spec returns (λ c. search needs) (λ c. search needs) (λ c. search needs) add-unit returns-2)

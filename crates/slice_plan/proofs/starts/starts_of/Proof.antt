@@ -1,8 +1,9 @@
 use borrow.Author.Needs.{needs}
-use Prim.Native.Nat.{ℕ, _-_}
+use Prim.Native.Nat.{ℕ, _+_, _-_}
 use mathlib.Core.Path.{refl, sym}
 use native.Mathlib.Omega.{arith}
 use lib.ListN.{length, length-replicate}
+use Rattle.partition.specs.Grid.{maxTiles}
 use Rattle.slice_plan.specs.Starts.{Starting, starting-begins, starting-none, starting-over, starting-room, starting-goes-on, starting-ends, starting-table, too-many, improper-answer}
 use Rattle.slice_plan.proofs.starts.starts_of.Statement.{statement}
 use Rattle.slice_plan.proofs.starts.starts_of.Tie as tie
@@ -17,13 +18,7 @@ returns : tie.Need-returns Inv-loop μ-loop
 returns c = improper-answer _ _ (too-many _ (c .if1 .taken))
 
 loop-holds : tie.Need-loop-holds Inv-loop μ-loop
-loop-holds c = starting-begins _ _ (length-replicate {A = ℕ} 991 0) refl (c .if1 .left)
-
-mul-s : tie.Need-mul-s Inv-loop μ-loop
-mul-s c = search needs
-
-shared-slice-read-s : tie.Need-shared-slice-read-s Inv-loop μ-loop
-shared-slice-read-s c = search needs
+loop-holds c = starting-begins _ _ (length-replicate {A = ℕ} (maxTiles + 1) 0) refl (c .if1 .left)
 
 returns-2 : tie.Need-returns-2 Inv-loop μ-loop
 returns-2 c = improper-answer _ _ (starting-none (c .before .before .before .loop .inv) (c .before .before .loop-test .taken) (c .if2 .taken))
@@ -37,17 +32,8 @@ returns-3 c = improper-answer _ _ (starting-over (c .before .before .before .bef
 add-total : tie.Need-add-total Inv-loop μ-loop
 add-total c = omega (arith, c .if3 .left, c .before .before .before .before .loop .inv .below)
 
-add-i : tie.Need-add-i Inv-loop μ-loop
-add-i c = search needs
-
-mul-at : tie.Need-mul-at Inv-loop μ-loop
-mul-at c = search needs
-
 array-write-at : tie.Need-array-write-at Inv-loop μ-loop
 array-write-at c = omega (arith, starting-room (c .before .before .before .before .loop .inv) (c .before .before .before .loop-test .taken), c .before .before .before .before .loop .inv .long)
-
-loop-less : tie.Need-loop-less Inv-loop μ-loop
-loop-less c = search needs
 
 loop-again : tie.Need-loop-again Inv-loop μ-loop
 loop-again c = starting-goes-on (c .before .before .before .before .loop .inv) (c .before .before .before .loop-test .taken) (c .before .if2 .left) (omega (arith, c .if3 .left, c .before .before .before .before .loop .inv .below))
@@ -61,17 +47,18 @@ starts-of-spec =
     (tie.spec
     Inv-loop
     μ-loop
+    (λ c. search needs)
     returns
     loop-holds
-    mul-s
-    shared-slice-read-s
+    (λ c. search needs)
+    (λ c. search needs)
     returns-2
     sub-if3
     returns-3
     add-total
-    add-i
-    mul-at
+    (λ c. search needs)
+    (λ c. search needs)
     array-write-at
-    loop-less
+    (λ c. search needs)
     loop-again
     returns-4)

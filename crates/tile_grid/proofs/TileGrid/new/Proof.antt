@@ -1,103 +1,12 @@
--- Each way out of `new` is a law over plain numbers; the answers of the three parts of the list are handed over.
+use mathlib.Core.Path.{ap, _∙_}
+use Rattle.tile_grid.specs.Answers.{gridHeld, gridAnswer}
 use borrow.Author.Needs.{needs}
-use mathlib.Core.Path.{sym, _∙_}
-use native.Mathlib.Omega.{arith}
-use Rattle.tile_grid.proofs.GridChecks.{refused-9, refused-explicit, refused-columns, refused-rows, some-column, columns-fit, rows-fit, accepted}
 use Rattle.tile_grid.proofs.TileGrid.new.Statement.{statement}
 use Rattle.tile_grid.proofs.TileGrid.new.Tie as tie
 
-refused-grid-requires : tie.Need-refused-grid-requires
-refused-grid-requires c κs = search needs
-
 returns : tie.Need-returns
-returns c = c .refused-grid .ensures ∙ refused-9 _ _ _ _ _ (c .before .if1 .taken)
-
-in-ctbs-requires : tie.Need-in-ctbs-requires
-in-ctbs-requires c κs = search needs
-
-in-ctbs-requires-2 : tie.Need-in-ctbs-requires-2
-in-ctbs-requires-2 c κs = search needs
-
-explicit-refusal-requires : tie.Need-explicit-refusal-requires
-explicit-refusal-requires c κs = search needs
-
-refused-grid-requires-2 : tie.Need-refused-grid-requires-2
-refused-grid-requires-2 c κs = search needs
-
-returns-2 : tie.Need-returns-2
-returns-2 c =
-    c .refused-grid2 .ensures
-    ∙ refused-explicit _ _ _ _ _ _ _ (c .before .before .before .before .in-ctbs .ensures) (c .before .before .before .in-ctbs2 .ensures) (c .before .before .before .before .before .if1 .left) _ (c .before .before .explicit-refusal .ensures) (c .before .if2 .taken)
-
-axis-answer-requires : tie.Need-axis-answer-requires
-axis-answer-requires c κs = search needs
-
-refused-grid-requires-3 : tie.Need-refused-grid-requires-3
-refused-grid-requires-3 c κs = search needs
-
-returns-3 : tie.Need-returns-3
-returns-3 c =
-    let ok = sym (c .before .before .before .before .if2 .left) ∙ c .before .before .before .before .before .explicit-refusal .ensures in
-    c .refused-grid3 .ensures
-    ∙ refused-columns _ _ _ _ _ _ _ (c .before .before .before .before .before .before .before .in-ctbs .ensures) (c .before .before .before .before .before .before .in-ctbs2 .ensures) (c .before .before .before .before .before .before .before .before .if1 .left) ok _ (c .before .before .before .axis-answer .ensures .0) (c .before .if3 .taken)
-
-div-axis-answer : tie.Need-div-axis-answer
-div-axis-answer c =
-    let ok = sym (c .before .before .before .before .if2 .left) ∙ c .before .before .before .before .before .explicit-refusal .ensures in
-    let columns = sym (c .before .if3 .left) ∙ c .before .before .before .axis-answer .ensures .0 in
-    let count = c .before .before .before .axis-answer .ensures .1 (c .before .if3 .left) in
-    let some = some-column _ _ _ _ _ _ _ (c .before .before .before .before .before .before .before .in-ctbs .ensures) (c .before .before .before .before .before .before .in-ctbs2 .ensures) (c .before .before .before .before .before .before .before .before .if1 .left) ok _ columns count in
-    omega arith
-
-axis-answer-requires-2 : tie.Need-axis-answer-requires-2
-axis-answer-requires-2 c κs = search needs
-
-refused-grid-requires-4 : tie.Need-refused-grid-requires-4
-refused-grid-requires-4 c κs = search needs
-
-returns-4 : tie.Need-returns-4
-returns-4 c =
-    let ok = sym (c .before .before .before .before .before .before .before .before .if2 .left) ∙ c .before .before .before .before .before .before .before .before .before .explicit-refusal .ensures in
-    let columns = sym (c .before .before .before .before .before .if3 .left) ∙ c .before .before .before .before .before .before .before .axis-answer .ensures .0 in
-    let count = c .before .before .before .before .before .before .before .axis-answer .ensures .1 (c .before .before .before .before .before .if3 .left) in
-    c .refused-grid4 .ensures
-    ∙ refused-rows _ _ _ _ _ _ _ (c .before .before .before .before .before .before .before .before .before .before .before .in-ctbs .ensures) (c .before .before .before .before .before .before .before .before .before .before .in-ctbs2 .ensures) (c .before .before .before .before .before .before .before .before .before .before .before .before .if1 .left) ok _ columns count _ (c .before .before .before .axis-answer2 .ensures .0) (c .before .if4 .taken)
-
-accepted-grid-requires : tie.Need-accepted-grid-requires
-accepted-grid-requires c κs =
-    let ok = sym (c .before .before .before .before .before .before .before .if2 .left) ∙ c .before .before .before .before .before .before .before .before .explicit-refusal .ensures in
-    let columns = sym (c .before .before .before .before .if3 .left) ∙ c .before .before .before .before .before .before .axis-answer .ensures .0 in
-    let count = c .before .before .before .before .before .before .axis-answer .ensures .1 (c .before .before .before .before .if3 .left) in
-    let rows = sym (c .if4 .left) ∙ c .before .before .axis-answer2 .ensures .0 in
-    let count2 = c .before .before .axis-answer2 .ensures .1 (c .if4 .left) in
-    (columns-fit _ _ _ _ _ _ _ (c .before .before .before .before .before .before .before .before .before .before .in-ctbs .ensures) (c .before .before .before .before .before .before .before .before .before .in-ctbs2 .ensures) (c .before .before .before .before .before .before .before .before .before .before .before .if1 .left) ok _ columns count, rows-fit _ _ _ _ _ _ _ (c .before .before .before .before .before .before .before .before .before .before .in-ctbs .ensures) (c .before .before .before .before .before .before .before .before .before .in-ctbs2 .ensures) (c .before .before .before .before .before .before .before .before .before .before .before .if1 .left) ok _ columns count _ rows count2)
-
-returns-5 : tie.Need-returns-5
-returns-5 c =
-    let ok = sym (c .before .before .before .before .before .before .before .before .if2 .left) ∙ c .before .before .before .before .before .before .before .before .before .explicit-refusal .ensures in
-    let columns = sym (c .before .before .before .before .before .if3 .left) ∙ c .before .before .before .before .before .before .before .axis-answer .ensures .0 in
-    let count = c .before .before .before .before .before .before .before .axis-answer .ensures .1 (c .before .before .before .before .before .if3 .left) in
-    let rows = sym (c .before .if4 .left) ∙ c .before .before .before .axis-answer2 .ensures .0 in
-    let count2 = c .before .before .before .axis-answer2 .ensures .1 (c .before .if4 .left) in
-    accepted _ _ _ _ _ _ _ (c .before .before .before .before .before .before .before .before .before .before .before .in-ctbs .ensures) (c .before .before .before .before .before .before .before .before .before .before .in-ctbs2 .ensures) (c .before .before .before .before .before .before .before .before .before .before .before .before .if1 .left) ok _ columns count _ rows count2 _ (c .accepted-grid .ensures)
+unfolding gridAnswer
+returns c = (c .held .ensures) ∙ ap gridHeld (c .before .grid-sizes .ensures)
 
 pub new-spec : {M : Type 1} → statement M
-new-spec =
-    tie.close
-    (tie.spec
-    refused-grid-requires
-    returns
-    in-ctbs-requires
-    in-ctbs-requires-2
-    explicit-refusal-requires
-    refused-grid-requires-2
-    returns-2
-    axis-answer-requires
-    refused-grid-requires-3
-    returns-3
-    div-axis-answer
-    axis-answer-requires-2
-    refused-grid-requires-4
-    returns-4
-    accepted-grid-requires
-    returns-5)
+new-spec = tie.close (tie.spec (λ c κs. search needs) (λ c κs. search needs) returns)

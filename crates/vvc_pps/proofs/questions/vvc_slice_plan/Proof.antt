@@ -4,14 +4,8 @@ use borrow.Author.Needs.{needs}
 use Rattle.vvc_pps.proofs.questions.vvc_slice_plan.Statement.{statement}
 use Rattle.vvc_pps.proofs.questions.vvc_slice_plan.Tie as tie
 
-plan-requires : tie.Need-plan-requires
-plan-requires c κs = search needs
-
-of-plan-requires : tie.Need-of-plan-requires
-of-plan-requires c κs = search needs
-
 returns : tie.Need-returns
-returns c = c .of-plan .ensures ∙ ap planHeld (c .before .plan .ensures)
+returns c = c .of-plan .ensures ∙ ap planHeld (c .before .slice-plan .ensures)
 
 pub vvc-slice-plan-spec : {M : Type 1} → statement M
-vvc-slice-plan-spec = tie.close (tie.spec plan-requires of-plan-requires returns)
+vvc-slice-plan-spec = tie.close (tie.spec (λ c κs. search needs) (λ c κs. search needs) returns)
