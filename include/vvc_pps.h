@@ -1,22 +1,41 @@
-/* The C interface of the H.266 (VVC) picture parameter set library; link libvvc_pps.a.
+/* The C interface of the H.266 (VVC) picture parameter set library; link libvvc_pps.a. C99, C++11 or later.
  *
- * Bytes and tables are handed over as a pointer and a length. The pointer is not null, even where the length is 0, and
- * what a function may change overlaps nothing else that is handed over. In an answer `refused` is 0 or the number of a
+ * Bytes and tables are handed over as a pointer and a length. The pointer may be null where the length is 0, and what a
+ * function may change overlaps nothing else that is handed over. In an answer `refused` is 0 or the number of a
  * refusal, and the values beside a refusal are 0, but for the kind of a cover answer and the fields of a cursor or a
  * sink. Nothing is allocated and nothing is kept between calls, so that any thread may call any function.
- * docs/BEHAVIOUR.md says what the library does, docs/DIFFERENCES.md where H.266 is different. */
+ *
+ * Most callers need VvcPpsTables and the functions over it, from vvc_pps_read on, at the end: they call the archive's
+ * functions with all tables at their lengths. docs/BEHAVIOUR.md says what the library does, docs/DIFFERENCES.md where
+ * H.266 is different. */
 #ifndef VVC_PPS_H
 #define VVC_PPS_H
+
+#if !defined(__linux__) || !defined(__x86_64__)
+#error "libvvc_pps.a is for Linux on x86-64"
+#endif
 
 #include <stdbool.h>
 #include <stddef.h>
 #include <stdint.h>
 
+#if UINTPTR_MAX != UINT64_MAX
+#error "libvvc_pps.a is for pointers of 64 bits"
+#endif
+
 #ifdef __cplusplus
 extern "C" {
 #endif
 
-/* The numbers of `refused`. */
+/* The version of this header. vvc_version() gives that of the archive, in the form of VVC_PPS_VERSION. */
+#define VVC_PPS_VERSION_MAJOR 0
+#define VVC_PPS_VERSION_MINOR 2
+#define VVC_PPS_VERSION_PATCH 0
+#define VVC_PPS_VERSION (VVC_PPS_VERSION_MAJOR * 65536 + VVC_PPS_VERSION_MINOR * 256 + VVC_PPS_VERSION_PATCH)
+
+uint32_t vvc_version(void);
+
+/* The numbers of `refused`. vvc_strerror has a short text for each. */
 enum {
     VVC_ACCEPTED = 0,
     VVC_NAL_TOO_SHORT = 1, /* NAL unit under 2 bytes */
@@ -53,6 +72,23 @@ enum {
     VVC_SUBPIC_IDS_WRONG = 27, /* writing: number of subpicture ids wrong, or an id too large for its length */
     VVC_EXTENSION_ENDS_IN_ZERO = 28, /* writing: extension bits end in 0 */
     VVC_OUTPUT_TOO_SHORT = 29, /* writing or escaping: output shorter than the bytes to be put there */
+};
+
+/* The limits of a picture, and the longest NAL unit that is read: so many bytes are always enough for a work buffer. */
+enum {
+    VVC_MAX_TILE_COLUMNS = 30,
+    VVC_MAX_TILES = 990,
+    VVC_MAX_SLICES = 1000,
+    VVC_MAX_NAL_BYTES = 65535,
+};
+
+/* The lengths that the tables of a picture parameter set have at least. */
+enum {
+    VVC_SUBPIC_IDS = 1000,
+    VVC_TILE_COLUMN_WIDTHS = VVC_MAX_TILE_COLUMNS,
+    VVC_TILE_ROW_HEIGHTS = VVC_MAX_TILES,
+    VVC_RECT_SLICES = VVC_MAX_SLICES - 1, /* slice entries */
+    VVC_SPLIT_HEIGHTS = VVC_MAX_SLICES,
 };
 
 /* The number of bytes put at the front of an output. */
@@ -110,15 +146,6 @@ typedef struct VvcSink {
     uint8_t refused;
 } VvcSink;
 
-/* The lengths that the tables of a picture parameter set have at least. */
-enum {
-    VVC_SUBPIC_IDS = 1000,
-    VVC_TILE_COLUMN_WIDTHS = 30,
-    VVC_TILE_ROW_HEIGHTS = 990,
-    VVC_RECT_SLICES = 999, /* each of the six tables of the slice entries */
-    VVC_SPLIT_HEIGHTS = 1000,
-};
-
 /* A picture parameter set (H.266 7.3.2.5), as reading gives it: flags are 0 or 1, an absent block (`present` 0) is 0
  * throughout, and a field that is not coded is 0, but for pps_rect_slice_flag in one tile (1), uncoded slice heights
  * and the chroma offsets of the deblocking block. For pps_num_slices_in_pic_minus1 with a single slice per subpicture,
@@ -163,8 +190,8 @@ typedef struct VvcPpsPartition {
     uint8_t pps_loop_filter_across_slices_enabled_flag;
 } VvcPpsPartition;
 
-/* The list is the first `cu_chroma_qp_offset_list_len` of the triples; their third offsets are coded where the joint
- * flag is 1. */
+/* The list is the first `cu_chroma_qp_offset_list_len` of the six triples beside the record; their third offsets are
+ * coded where the joint flag is 1. */
 typedef struct VvcPpsChromaToolOffsets {
     uint8_t present; /* pps_chroma_tool_offsets_present_flag */
     int32_t pps_cb_qp_offset;
@@ -227,11 +254,52 @@ typedef struct VvcPps {
     size_t pps_extension_data_bits;
 } VvcPps;
 
-/* The set took the first `bytes_taken` bytes of the work buffer. */
+/* An unpartitioned set with zeros for the rest: writing accepts it once the picture's width and height are filled in.
+ * VvcPps pps = VVC_PPS_INIT; */
+#define VVC_PPS_INIT \
+    { \
+        0, 0, 0, 0, 0, \
+        { 0, 0, 0, 0, 0 }, /* pps_conf_win_offsets */ \
+        { 0, 0, 0, 0, 0 }, /* pps_scaling_win_offsets */ \
+        0, 1, /* pps_no_pic_partition_flag */ \
+        { 0, 0, 0, 0 }, /* subpic_id_mapping */ \
+        { 0, 0, 0, 0, 0, 0, 0, 0, 0, 0, 0 }, /* partition */ \
+        0, 0, 0, 0, 0, 0, 0, 0, 0, 0, \
+        { 0, 0, 0, 0, 0, 0, 0, 0 }, /* chroma_tool_offsets */ \
+        { 0, 0, 0, 0, 0, 0, 0, 0, 0, 0 }, /* deblocking */ \
+        0, 0, 0, 0, 0, 0, 0, 0, 0, 0 \
+    }
+
+/* A slice entry. The height is coded or inferred, both are minus 1. Of the split heights, minus 1 too, an entry takes
+ * the first pps_num_exp_slices_in_tile that the entries before it have left. In writing and the questions anything but
+ * 0 says that a part is present. */
+typedef struct VvcPpsRectSlice {
+    uint32_t pps_slice_width_in_tiles_minus1;
+    uint32_t pps_slice_height_in_tiles_minus1;
+    uint32_t split_present; /* the next is coded */
+    uint32_t pps_num_exp_slices_in_tile;
+    uint32_t delta_present; /* the next is coded */
+    int32_t pps_tile_idx_delta_val;
+} VvcPpsRectSlice;
+
+/* A triple of the chroma list. */
+typedef struct VvcQpOffsets {
+    int32_t cb;
+    int32_t cr;
+    int32_t joint;
+} VvcQpOffsets;
+
+/* The triples beside a record that is written; those past the list's length are not looked at. */
+typedef struct VvcQpOffsetList {
+    VvcQpOffsets triples[6];
+} VvcQpOffsetList;
+
+/* The set took the first `bytes_taken` bytes of the work buffer. Triples past the list's length are 0. */
 typedef struct VvcPpsRead {
     uint8_t refused;
     size_t bytes_taken;
     VvcPps pps;
+    VvcQpOffsets triples[6];
 } VvcPpsRead;
 
 /* The tile grid of a picture, in CTBs, with no columns and no rows where it is unpartitioned. Places not in use are 0,
@@ -240,8 +308,8 @@ typedef struct VvcGridAnswer {
     uint8_t refused;
     uint32_t num_tile_columns;
     uint32_t num_tile_rows;
-    uint32_t column_widths[30];
-    uint32_t row_heights[990];
+    uint32_t column_widths[VVC_MAX_TILE_COLUMNS];
+    uint32_t row_heights[VVC_MAX_TILES];
 } VvcGridAnswer;
 
 /* Where each slice of a picture lies, in CTBs from the top left, by slice index; without slices where none are coded.
@@ -249,10 +317,10 @@ typedef struct VvcGridAnswer {
 typedef struct VvcPlanAnswer {
     uint8_t refused;
     uint32_t num_slices;
-    uint32_t left[1000];
-    uint32_t top[1000];
-    uint32_t width[1000];
-    uint32_t height[1000];
+    uint32_t left[VVC_MAX_SLICES];
+    uint32_t top[VVC_MAX_SLICES];
+    uint32_t width[VVC_MAX_SLICES];
+    uint32_t height[VVC_MAX_SLICES];
 } VvcPlanAnswer;
 
 /* What the slices of a picture cover. Gap goes before double. */
@@ -288,18 +356,16 @@ VvcNalHeaderRead vvc_parse_nal_header(const uint8_t *nal, size_t nal_len);
  *
  * Lent are a work buffer of at least the NAL unit's length - 2 bytes (else 4), which takes the payload without its
  * escape bytes, and tables of at least these lengths (else 5): `subpic_ids` 1,000; `tile_column_widths` 30;
- * `tile_row_heights` 990; `slice_widths` to `deltas` 999 each, one place a slice entry; `split_heights` 1,000, of which
- * each entry takes its split count, in order. The `triples` are six, and no length is handed over for them. Sizes,
- * heights and widths are as coded, minus 1. Where an entry has a split count or a delta, its place in `split_present`
- * or `delta_present` is 1.
+ * `tile_row_heights` 990; `entries` 999; `split_heights` 1,000, of which each entry takes its split count, in order.
+ * Sizes, heights and widths are as coded, minus 1.
  *
  * After 1 to 5 nothing lent has changed. Otherwise the work buffer starts with the payload, its rest as before, and the
  * tables have the entries in use, then zeros to their ends; after 6 to 23, zeros throughout. */
-VvcPpsRead vvc_parse_pps(const uint8_t *nal, size_t nal_len, uint8_t *work, size_t work_len, uint32_t *subpic_ids, size_t subpic_ids_len,
-    uint32_t *tile_column_widths, size_t tile_column_widths_len, uint32_t *tile_row_heights, size_t tile_row_heights_len,
-    uint32_t *slice_widths, size_t slice_widths_len, uint32_t *slice_heights, size_t slice_heights_len, uint8_t *split_present,
-    size_t split_present_len, uint32_t *split_counts, size_t split_counts_len, uint8_t *delta_present, size_t delta_present_len,
-    int32_t *deltas, size_t deltas_len, uint32_t *split_heights, size_t split_heights_len, int32_t triples[6][3]);
+VvcPpsRead vvc_parse_pps(const uint8_t *nal, size_t nal_len, uint8_t *work, size_t work_len,
+    uint32_t *subpic_ids, size_t subpic_ids_len,
+    uint32_t *tile_column_widths, size_t tile_column_widths_len,
+    uint32_t *tile_row_heights, size_t tile_row_heights_len,
+    VvcPpsRectSlice *entries, size_t entries_len, uint32_t *split_heights, size_t split_heights_len);
 
 /* Writes the RBSP of a picture parameter set, with its trailing bits. Refusals: 5, then 7 to 21 and 24 to 28 in the
  * order in which the fields are written, then 29 where `out` is shorter than the bytes.
@@ -313,20 +379,20 @@ VvcPpsRead vvc_parse_pps(const uint8_t *nal, size_t nal_len, uint8_t *work, size
  * mapping in an unpartitioned picture, which has to be 0 (26).
  *
  * A refusal changes nothing, an acceptance only the bytes reported. */
-VvcByteCount vvc_write_pps(VvcPps pps, const uint32_t *subpic_ids, size_t subpic_ids_len, const uint32_t *tile_column_widths,
-    size_t tile_column_widths_len, const uint32_t *tile_row_heights, size_t tile_row_heights_len, const uint32_t *slice_widths,
-    size_t slice_widths_len, const uint32_t *slice_heights, size_t slice_heights_len, const uint8_t *split_present,
-    size_t split_present_len, const uint32_t *split_counts, size_t split_counts_len, const uint8_t *delta_present,
-    size_t delta_present_len, const int32_t *deltas, size_t deltas_len, const uint32_t *split_heights, size_t split_heights_len,
-    const int32_t triples[6][3], const uint8_t *extension, size_t extension_len, uint8_t *out, size_t out_len);
+VvcByteCount vvc_write_pps(VvcPps pps, VvcQpOffsetList triples,
+    const uint32_t *subpic_ids, size_t subpic_ids_len,
+    const uint32_t *tile_column_widths, size_t tile_column_widths_len,
+    const uint32_t *tile_row_heights, size_t tile_row_heights_len,
+    const VvcPpsRectSlice *entries, size_t entries_len, const uint32_t *split_heights, size_t split_heights_len,
+    const uint8_t *extension, size_t extension_len, uint8_t *out, size_t out_len);
 
 /* Writes the NAL unit: 00 81, then the escaped RBSP. All else as in vvc_write_pps. */
-VvcByteCount vvc_write_pps_nal(VvcPps pps, const uint32_t *subpic_ids, size_t subpic_ids_len, const uint32_t *tile_column_widths,
-    size_t tile_column_widths_len, const uint32_t *tile_row_heights, size_t tile_row_heights_len, const uint32_t *slice_widths,
-    size_t slice_widths_len, const uint32_t *slice_heights, size_t slice_heights_len, const uint8_t *split_present,
-    size_t split_present_len, const uint32_t *split_counts, size_t split_counts_len, const uint8_t *delta_present,
-    size_t delta_present_len, const int32_t *deltas, size_t deltas_len, const uint32_t *split_heights, size_t split_heights_len,
-    const int32_t triples[6][3], const uint8_t *extension, size_t extension_len, uint8_t *out, size_t out_len);
+VvcByteCount vvc_write_pps_nal(VvcPps pps, VvcQpOffsetList triples,
+    const uint32_t *subpic_ids, size_t subpic_ids_len,
+    const uint32_t *tile_column_widths, size_t tile_column_widths_len,
+    const uint32_t *tile_row_heights, size_t tile_row_heights_len,
+    const VvcPpsRectSlice *entries, size_t entries_len, const uint32_t *split_heights, size_t split_heights_len,
+    const uint8_t *extension, size_t extension_len, uint8_t *out, size_t out_len);
 
 /* The questions on a record with the tables that reading fills (H.266 6.5.1). Refusals: 5 as in writing, the extension
  * bits aside; 7; 26 for the no-partition flag or a flag of a present partition over 1, and for a partition that is
@@ -337,26 +403,26 @@ VvcByteCount vvc_write_pps_nal(VvcPps pps, const uint32_t *subpic_ids, size_t su
  * changes. */
 
 /* The sizes of the tile columns and rows. */
-VvcGridAnswer vvc_tile_grid(VvcPps pps, const uint32_t *subpic_ids, size_t subpic_ids_len, const uint32_t *tile_column_widths,
-    size_t tile_column_widths_len, const uint32_t *tile_row_heights, size_t tile_row_heights_len, const uint32_t *slice_widths,
-    size_t slice_widths_len, const uint32_t *slice_heights, size_t slice_heights_len, const uint8_t *split_present,
-    size_t split_present_len, const uint32_t *split_counts, size_t split_counts_len, const uint8_t *delta_present,
-    size_t delta_present_len, const int32_t *deltas, size_t deltas_len, const uint32_t *split_heights, size_t split_heights_len);
+VvcGridAnswer vvc_tile_grid(VvcPps pps,
+    const uint32_t *subpic_ids, size_t subpic_ids_len,
+    const uint32_t *tile_column_widths, size_t tile_column_widths_len,
+    const uint32_t *tile_row_heights, size_t tile_row_heights_len,
+    const VvcPpsRectSlice *entries, size_t entries_len, const uint32_t *split_heights, size_t split_heights_len);
 
-/* Each slice's left, top, width and height. Takes 119,000 bytes of stack beside the answer. */
-VvcPlanAnswer vvc_slice_plan(VvcPps pps, const uint32_t *subpic_ids, size_t subpic_ids_len, const uint32_t *tile_column_widths,
-    size_t tile_column_widths_len, const uint32_t *tile_row_heights, size_t tile_row_heights_len, const uint32_t *slice_widths,
-    size_t slice_widths_len, const uint32_t *slice_heights, size_t slice_heights_len, const uint8_t *split_present,
-    size_t split_present_len, const uint32_t *split_counts, size_t split_counts_len, const uint8_t *delta_present,
-    size_t delta_present_len, const int32_t *deltas, size_t deltas_len, const uint32_t *split_heights, size_t split_heights_len);
+/* Each slice's left, top, width and height. Takes much stack (README.md). */
+VvcPlanAnswer vvc_slice_plan(VvcPps pps,
+    const uint32_t *subpic_ids, size_t subpic_ids_len,
+    const uint32_t *tile_column_widths, size_t tile_column_widths_len,
+    const uint32_t *tile_row_heights, size_t tile_row_heights_len,
+    const VvcPpsRectSlice *entries, size_t entries_len, const uint32_t *split_heights, size_t split_heights_len);
 
-/* Whether the slices cover each block once. The tile of a gap or a double is any that is as said. Takes 127,000 bytes of
- * stack. */
-VvcCoverAnswer vvc_cover(VvcPps pps, const uint32_t *subpic_ids, size_t subpic_ids_len, const uint32_t *tile_column_widths,
-    size_t tile_column_widths_len, const uint32_t *tile_row_heights, size_t tile_row_heights_len, const uint32_t *slice_widths,
-    size_t slice_widths_len, const uint32_t *slice_heights, size_t slice_heights_len, const uint8_t *split_present,
-    size_t split_present_len, const uint32_t *split_counts, size_t split_counts_len, const uint8_t *delta_present,
-    size_t delta_present_len, const int32_t *deltas, size_t deltas_len, const uint32_t *split_heights, size_t split_heights_len);
+/* Whether the slices cover each block once. The tile of a gap or a double is any that is as said. Takes much stack
+ * (README.md). */
+VvcCoverAnswer vvc_cover(VvcPps pps,
+    const uint32_t *subpic_ids, size_t subpic_ids_len,
+    const uint32_t *tile_column_widths, size_t tile_column_widths_len,
+    const uint32_t *tile_row_heights, size_t tile_row_heights_len,
+    const VvcPpsRectSlice *entries, size_t entries_len, const uint32_t *split_heights, size_t split_heights_len);
 
 /* The number of bits of the ue(v) code of `v` (H.266 9.2). Refusal: 25 for 4294967295. */
 VvcUeSize vvc_ue_size(uint32_t v);
@@ -403,7 +469,8 @@ VvcSink vvc_put_ue(VvcSink w, uint8_t *out, size_t out_len, uint32_t v);
 VvcSink vvc_put_se(VvcSink w, uint8_t *out, size_t out_len, int32_t v);
 
 /* `count` bits of `bytes` from bit `from` on; bits past the end are 0. */
-VvcSink vvc_put_copy(VvcSink w, uint8_t *out, size_t out_len, const uint8_t *bytes, size_t bytes_len, size_t from, size_t count);
+VvcSink vvc_put_copy(VvcSink w, uint8_t *out, size_t out_len, const uint8_t *bytes, size_t bytes_len, size_t from,
+    size_t count);
 
 /* rbsp_trailing_bits(), and the end of the payload. */
 VvcSink vvc_close(VvcSink w, uint8_t *out, size_t out_len);
@@ -412,8 +479,214 @@ VvcSink vvc_close(VvcSink w, uint8_t *out, size_t out_len);
  * number of these. */
 VvcByteCount vvc_sink_answer(VvcSink w, size_t room);
 
+/* ---- Few arguments: what a set is read into and written from, and calls with all of it, which add no test of their
+ * own. */
+
+/* The tables at their lengths, and the triples of the chroma list: 36,128 bytes. Zeros are a set without lists. */
+typedef struct VvcPpsTables {
+    uint32_t subpic_ids[VVC_SUBPIC_IDS];
+    uint32_t tile_column_widths[VVC_TILE_COLUMN_WIDTHS];
+    uint32_t tile_row_heights[VVC_TILE_ROW_HEIGHTS];
+    VvcPpsRectSlice entries[VVC_RECT_SLICES];
+    uint32_t split_heights[VVC_SPLIT_HEIGHTS];
+    VvcQpOffsets triples[6];
+} VvcPpsTables;
+
+#define VVC_PPS_TABLES_(t) \
+    (t)->subpic_ids, VVC_SUBPIC_IDS, (t)->tile_column_widths, VVC_TILE_COLUMN_WIDTHS, \
+    (t)->tile_row_heights, VVC_TILE_ROW_HEIGHTS, (t)->entries, VVC_RECT_SLICES, \
+    (t)->split_heights, VVC_SPLIT_HEIGHTS
+
+static inline VvcQpOffsetList vvc_pps_triples_(const VvcPpsTables *tables) {
+    VvcQpOffsetList list;
+    int i;
+    for (i = 0; i < 6; i++)
+        list.triples[i] = tables->triples[i];
+    return list;
+}
+
+/* Reads a NAL unit: vvc_parse_pps. The answer's triples stand in the tables too, but after 1 to 5, which change
+ * nothing. */
+static inline VvcPpsRead vvc_pps_read(const uint8_t *nal, size_t nal_len, uint8_t *work, size_t work_len,
+    VvcPpsTables *tables) {
+    VvcPpsRead read = vvc_parse_pps(nal, nal_len, work, work_len, VVC_PPS_TABLES_(tables));
+    int i;
+    if (read.refused == VVC_ACCEPTED || read.refused > VVC_TABLE_TOO_SHORT) {
+        for (i = 0; i < 6; i++)
+            tables->triples[i] = read.triples[i];
+    }
+    return read;
+}
+
+/* Writes the NAL unit: vvc_write_pps_nal. */
+static inline VvcByteCount vvc_pps_write(const VvcPps *pps, const VvcPpsTables *tables,
+    const uint8_t *extension, size_t extension_len, uint8_t *out, size_t out_len) {
+    return vvc_write_pps_nal(*pps, vvc_pps_triples_(tables), VVC_PPS_TABLES_(tables), extension, extension_len, out,
+        out_len);
+}
+
+/* Writes the RBSP: vvc_write_pps. */
+static inline VvcByteCount vvc_pps_write_rbsp(const VvcPps *pps, const VvcPpsTables *tables,
+    const uint8_t *extension, size_t extension_len, uint8_t *out, size_t out_len) {
+    return vvc_write_pps(*pps, vvc_pps_triples_(tables), VVC_PPS_TABLES_(tables), extension, extension_len, out,
+        out_len);
+}
+
+/* The questions: vvc_tile_grid, vvc_slice_plan, vvc_cover. They answer by value, as the archive's functions do: an
+ * answer that initialises a variable is put there without a copy, which a pointer to it would cost. */
+static inline VvcGridAnswer vvc_pps_grid(const VvcPps *pps, const VvcPpsTables *tables) {
+    return vvc_tile_grid(*pps, VVC_PPS_TABLES_(tables));
+}
+
+static inline VvcPlanAnswer vvc_pps_plan(const VvcPps *pps, const VvcPpsTables *tables) {
+    return vvc_slice_plan(*pps, VVC_PPS_TABLES_(tables));
+}
+
+static inline VvcCoverAnswer vvc_pps_cover(const VvcPps *pps, const VvcPpsTables *tables) {
+    return vvc_cover(*pps, VVC_PPS_TABLES_(tables));
+}
+
+/* A short text for a number of `refused`. */
+static inline const char *vvc_strerror(int number) {
+    static const char *const texts[] = {
+        "accepted",
+        "NAL unit under 2 bytes",
+        "NAL unit of another type",
+        "over 65,535 bytes",
+        "work buffer too short",
+        "table too short, or a count or extension bits past what is lent",
+        "ue(v) code with 32 leading zeros",
+        "picture width or height 0",
+        "subpicture count or id length out of range",
+        "CTU size out of range",
+        "number of explicit tile columns or rows out of range",
+        "tile size past the picture",
+        "sum of tile sizes past the picture",
+        "too many tile columns or tiles",
+        "too many slices",
+        "slice past the tile grid",
+        "split of a tile out of range",
+        "more split slices than are left",
+        "tile index delta out of range",
+        "slices leave the tile grid",
+        "reference index out of range",
+        "QP or deblocking offset, or QP list length, out of range",
+        "no stop bit",
+        "wrong trailing bits",
+        "PPS or SPS id out of range",
+        "value without a code",
+        "record contradicts the syntax",
+        "number of subpicture ids, or an id, wrong",
+        "extension bits end in 0",
+        "output too short",
+    };
+    if (number < 0 || number > VVC_OUTPUT_TOO_SHORT)
+        return "unknown number";
+    return texts[number];
+}
+
 #ifdef __cplusplus
 }
 #endif
+
+/* ---- The layout that the archive has. */
+#if defined(__cplusplus)
+#define VVC_PPS_HOLDS_(name, truth) static_assert(truth, #name)
+#elif defined(__STDC_VERSION__) && __STDC_VERSION__ >= 201112L
+#define VVC_PPS_HOLDS_(name, truth) _Static_assert(truth, #name)
+#else
+#define VVC_PPS_HOLDS_(name, truth) typedef char vvc_pps_##name[(truth) ? 1 : -1]
+#endif
+#define VVC_PPS_SIZE_(type, size) VVC_PPS_HOLDS_(size_of_##type, sizeof(type) == (size))
+#define VVC_PPS_AT_(type, field, place) VVC_PPS_HOLDS_(place_of_##type##_##field, offsetof(type, field) == (place))
+
+VVC_PPS_SIZE_(VvcByteCount, 16); VVC_PPS_AT_(VvcByteCount, refused, 0); VVC_PPS_AT_(VvcByteCount, bytes, 8);
+VVC_PPS_SIZE_(VvcNalHeader, 5); VVC_PPS_AT_(VvcNalHeader, forbidden_zero_bit, 0);
+VVC_PPS_AT_(VvcNalHeader, nuh_reserved_zero_bit, 1); VVC_PPS_AT_(VvcNalHeader, nuh_layer_id, 2);
+VVC_PPS_AT_(VvcNalHeader, nal_unit_type, 3); VVC_PPS_AT_(VvcNalHeader, nuh_temporal_id_plus1, 4);
+VVC_PPS_SIZE_(VvcNalHeaderRead, 6); VVC_PPS_AT_(VvcNalHeaderRead, refused, 0); VVC_PPS_AT_(VvcNalHeaderRead, header, 1);
+VVC_PPS_SIZE_(VvcUeSize, 8); VVC_PPS_AT_(VvcUeSize, refused, 0); VVC_PPS_AT_(VvcUeSize, bits, 4);
+VVC_PPS_SIZE_(VvcCursor, 16); VVC_PPS_AT_(VvcCursor, at, 0); VVC_PPS_AT_(VvcCursor, refused, 8);
+VVC_PPS_SIZE_(VvcBitsRead, 24); VVC_PPS_AT_(VvcBitsRead, value, 0); VVC_PPS_AT_(VvcBitsRead, next, 8);
+VVC_PPS_SIZE_(VvcSignedRead, 24); VVC_PPS_AT_(VvcSignedRead, value, 0); VVC_PPS_AT_(VvcSignedRead, next, 8);
+VVC_PPS_SIZE_(VvcSink, 24); VVC_PPS_AT_(VvcSink, escape, 0); VVC_PPS_AT_(VvcSink, zeros, 1);
+VVC_PPS_AT_(VvcSink, put, 8); VVC_PPS_AT_(VvcSink, cur, 16); VVC_PPS_AT_(VvcSink, have, 17);
+VVC_PPS_AT_(VvcSink, refused, 18);
+VVC_PPS_SIZE_(VvcPpsConfWinOffsets, 20); VVC_PPS_AT_(VvcPpsConfWinOffsets, present, 0);
+VVC_PPS_AT_(VvcPpsConfWinOffsets, pps_conf_win_left_offset, 4);
+VVC_PPS_AT_(VvcPpsConfWinOffsets, pps_conf_win_right_offset, 8);
+VVC_PPS_AT_(VvcPpsConfWinOffsets, pps_conf_win_top_offset, 12);
+VVC_PPS_AT_(VvcPpsConfWinOffsets, pps_conf_win_bottom_offset, 16);
+VVC_PPS_SIZE_(VvcPpsScalingWinOffsets, 20); VVC_PPS_AT_(VvcPpsScalingWinOffsets, present, 0);
+VVC_PPS_AT_(VvcPpsScalingWinOffsets, pps_scaling_win_left_offset, 4);
+VVC_PPS_AT_(VvcPpsScalingWinOffsets, pps_scaling_win_right_offset, 8);
+VVC_PPS_AT_(VvcPpsScalingWinOffsets, pps_scaling_win_top_offset, 12);
+VVC_PPS_AT_(VvcPpsScalingWinOffsets, pps_scaling_win_bottom_offset, 16);
+VVC_PPS_SIZE_(VvcPpsSubpicIdMapping, 16); VVC_PPS_AT_(VvcPpsSubpicIdMapping, present, 0);
+VVC_PPS_AT_(VvcPpsSubpicIdMapping, pps_num_subpics_minus1, 4);
+VVC_PPS_AT_(VvcPpsSubpicIdMapping, pps_subpic_id_len_minus1, 8); VVC_PPS_AT_(VvcPpsSubpicIdMapping, num_subpic_ids, 12);
+VVC_PPS_SIZE_(VvcPpsPartition, 32); VVC_PPS_AT_(VvcPpsPartition, present, 0);
+VVC_PPS_AT_(VvcPpsPartition, pps_log2_ctu_size_minus5, 1); VVC_PPS_AT_(VvcPpsPartition, num_tile_column_widths, 4);
+VVC_PPS_AT_(VvcPpsPartition, num_tile_row_heights, 8);
+VVC_PPS_AT_(VvcPpsPartition, pps_loop_filter_across_tiles_enabled_flag, 12);
+VVC_PPS_AT_(VvcPpsPartition, pps_rect_slice_flag, 13);
+VVC_PPS_AT_(VvcPpsPartition, pps_single_slice_per_subpic_flag, 14);
+VVC_PPS_AT_(VvcPpsPartition, pps_num_slices_in_pic_minus1, 16);
+VVC_PPS_AT_(VvcPpsPartition, pps_tile_idx_delta_present_flag, 20); VVC_PPS_AT_(VvcPpsPartition, num_rect_slices, 24);
+VVC_PPS_AT_(VvcPpsPartition, pps_loop_filter_across_slices_enabled_flag, 28);
+VVC_PPS_SIZE_(VvcPpsChromaToolOffsets, 28); VVC_PPS_AT_(VvcPpsChromaToolOffsets, present, 0);
+VVC_PPS_AT_(VvcPpsChromaToolOffsets, pps_cb_qp_offset, 4); VVC_PPS_AT_(VvcPpsChromaToolOffsets, pps_cr_qp_offset, 8);
+VVC_PPS_AT_(VvcPpsChromaToolOffsets, pps_joint_cbcr_qp_offset_present_flag, 12);
+VVC_PPS_AT_(VvcPpsChromaToolOffsets, pps_joint_cbcr_qp_offset_value, 16);
+VVC_PPS_AT_(VvcPpsChromaToolOffsets, pps_slice_chroma_qp_offsets_present_flag, 20);
+VVC_PPS_AT_(VvcPpsChromaToolOffsets, pps_cu_chroma_qp_offset_list_enabled_flag, 21);
+VVC_PPS_AT_(VvcPpsChromaToolOffsets, cu_chroma_qp_offset_list_len, 24);
+VVC_PPS_SIZE_(VvcPpsDeblocking, 28); VVC_PPS_AT_(VvcPpsDeblocking, present, 0);
+VVC_PPS_AT_(VvcPpsDeblocking, pps_deblocking_filter_override_enabled_flag, 1);
+VVC_PPS_AT_(VvcPpsDeblocking, pps_deblocking_filter_disabled_flag, 2);
+VVC_PPS_AT_(VvcPpsDeblocking, pps_dbf_info_in_ph_flag, 3); VVC_PPS_AT_(VvcPpsDeblocking, pps_luma_beta_offset_div2, 4);
+VVC_PPS_AT_(VvcPpsDeblocking, pps_luma_tc_offset_div2, 8); VVC_PPS_AT_(VvcPpsDeblocking, pps_cb_beta_offset_div2, 12);
+VVC_PPS_AT_(VvcPpsDeblocking, pps_cb_tc_offset_div2, 16); VVC_PPS_AT_(VvcPpsDeblocking, pps_cr_beta_offset_div2, 20);
+VVC_PPS_AT_(VvcPpsDeblocking, pps_cr_tc_offset_div2, 24);
+VVC_PPS_SIZE_(VvcPps, 216); VVC_PPS_AT_(VvcPps, pps_pic_parameter_set_id, 0);
+VVC_PPS_AT_(VvcPps, pps_seq_parameter_set_id, 1); VVC_PPS_AT_(VvcPps, pps_mixed_nalu_types_in_pic_flag, 2);
+VVC_PPS_AT_(VvcPps, pps_pic_width_in_luma_samples, 4); VVC_PPS_AT_(VvcPps, pps_pic_height_in_luma_samples, 8);
+VVC_PPS_AT_(VvcPps, pps_conf_win_offsets, 12); VVC_PPS_AT_(VvcPps, pps_scaling_win_offsets, 32);
+VVC_PPS_AT_(VvcPps, pps_output_flag_present_flag, 52); VVC_PPS_AT_(VvcPps, pps_no_pic_partition_flag, 53);
+VVC_PPS_AT_(VvcPps, subpic_id_mapping, 56); VVC_PPS_AT_(VvcPps, partition, 72);
+VVC_PPS_AT_(VvcPps, pps_cabac_init_present_flag, 104);
+VVC_PPS_AT_(VvcPps, pps_num_ref_idx_default_active_minus1_l0, 108);
+VVC_PPS_AT_(VvcPps, pps_num_ref_idx_default_active_minus1_l1, 112); VVC_PPS_AT_(VvcPps, pps_rpl1_idx_present_flag, 116);
+VVC_PPS_AT_(VvcPps, pps_weighted_pred_flag, 117); VVC_PPS_AT_(VvcPps, pps_weighted_bipred_flag, 118);
+VVC_PPS_AT_(VvcPps, pps_ref_wraparound_enabled_flag, 119);
+VVC_PPS_AT_(VvcPps, pps_pic_width_minus_wraparound_offset, 120); VVC_PPS_AT_(VvcPps, pps_init_qp_minus26, 124);
+VVC_PPS_AT_(VvcPps, pps_cu_qp_delta_enabled_flag, 128); VVC_PPS_AT_(VvcPps, chroma_tool_offsets, 132);
+VVC_PPS_AT_(VvcPps, deblocking, 160); VVC_PPS_AT_(VvcPps, pps_rpl_info_in_ph_flag, 188);
+VVC_PPS_AT_(VvcPps, pps_sao_info_in_ph_flag, 189); VVC_PPS_AT_(VvcPps, pps_alf_info_in_ph_flag, 190);
+VVC_PPS_AT_(VvcPps, pps_wp_info_in_ph_flag, 191); VVC_PPS_AT_(VvcPps, pps_qp_delta_info_in_ph_flag, 192);
+VVC_PPS_AT_(VvcPps, pps_picture_header_extension_present_flag, 193);
+VVC_PPS_AT_(VvcPps, pps_slice_header_extension_present_flag, 194); VVC_PPS_AT_(VvcPps, pps_extension_flag, 195);
+VVC_PPS_AT_(VvcPps, pps_extension_data_first_bit, 200); VVC_PPS_AT_(VvcPps, pps_extension_data_bits, 208);
+VVC_PPS_SIZE_(VvcPpsRectSlice, 24); VVC_PPS_AT_(VvcPpsRectSlice, pps_slice_width_in_tiles_minus1, 0);
+VVC_PPS_AT_(VvcPpsRectSlice, pps_slice_height_in_tiles_minus1, 4); VVC_PPS_AT_(VvcPpsRectSlice, split_present, 8);
+VVC_PPS_AT_(VvcPpsRectSlice, pps_num_exp_slices_in_tile, 12); VVC_PPS_AT_(VvcPpsRectSlice, delta_present, 16);
+VVC_PPS_AT_(VvcPpsRectSlice, pps_tile_idx_delta_val, 20);
+VVC_PPS_SIZE_(VvcQpOffsets, 12); VVC_PPS_AT_(VvcQpOffsets, cb, 0); VVC_PPS_AT_(VvcQpOffsets, cr, 4);
+VVC_PPS_AT_(VvcQpOffsets, joint, 8);
+VVC_PPS_SIZE_(VvcQpOffsetList, 72); VVC_PPS_AT_(VvcQpOffsetList, triples, 0);
+VVC_PPS_SIZE_(VvcPpsRead, 304); VVC_PPS_AT_(VvcPpsRead, refused, 0); VVC_PPS_AT_(VvcPpsRead, bytes_taken, 8);
+VVC_PPS_AT_(VvcPpsRead, pps, 16); VVC_PPS_AT_(VvcPpsRead, triples, 232);
+VVC_PPS_SIZE_(VvcGridAnswer, 4092); VVC_PPS_AT_(VvcGridAnswer, refused, 0);
+VVC_PPS_AT_(VvcGridAnswer, num_tile_columns, 4); VVC_PPS_AT_(VvcGridAnswer, num_tile_rows, 8);
+VVC_PPS_AT_(VvcGridAnswer, column_widths, 12); VVC_PPS_AT_(VvcGridAnswer, row_heights, 132);
+VVC_PPS_SIZE_(VvcPlanAnswer, 16008); VVC_PPS_AT_(VvcPlanAnswer, refused, 0); VVC_PPS_AT_(VvcPlanAnswer, num_slices, 4);
+VVC_PPS_AT_(VvcPlanAnswer, left, 8); VVC_PPS_AT_(VvcPlanAnswer, top, 4008); VVC_PPS_AT_(VvcPlanAnswer, width, 8008);
+VVC_PPS_AT_(VvcPlanAnswer, height, 12008);
+VVC_PPS_SIZE_(VvcCoverAnswer, 8); VVC_PPS_AT_(VvcCoverAnswer, kind, 0); VVC_PPS_AT_(VvcCoverAnswer, refused, 1);
+VVC_PPS_AT_(VvcCoverAnswer, tile, 4);
+
+#undef VVC_PPS_AT_
+#undef VVC_PPS_SIZE_
+#undef VVC_PPS_HOLDS_
 
 #endif

@@ -8,8 +8,8 @@ mod written;
 pub use asked::{CoverAnswer, GridAnswer, PlanAnswer, cover, slice_plan, tile_grid};
 pub use given::Given;
 pub use pps::{
-    ChromaToolOffsets, ConfWinOffsets, Deblocking, Partition, Pps, PpsRead, ScalingWinOffsets,
-    SubpicIdMapping, Tables, parse_pps,
+    ChromaToolOffsets, ConfWinOffsets, Deblocking, Partition, Pps, PpsRead, QpOffsets, RectSlice,
+    ScalingWinOffsets, SubpicIdMapping, Tables, parse_pps,
 };
 pub use written::{write_pps, write_pps_nal};
 

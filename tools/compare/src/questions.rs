@@ -46,7 +46,7 @@ struct Answer {
 }
 
 fn compare(set: &Set, tally: &mut Tally) {
-    let Set { pps, lent } = set;
+    let Set { pps, lent, .. } = set;
     let before = lent.clone();
     let refused = second::refusal(set);
     let written = original::written(set, refused);

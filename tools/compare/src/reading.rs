@@ -15,7 +15,7 @@ mod tiles;
 mod units;
 
 use crate::by_text::{ANYWHERE, READ, READ_OR_WRITTEN, said};
-use crate::ours::{Pps, PpsRead};
+use crate::ours::{Pps, PpsRead, QpOffsets};
 use crate::tally::{Area, Hex, Tally};
 use original::BitstreamError;
 use original::h266::pps::{VvcPps, parse_pps};
@@ -90,6 +90,7 @@ fn compare_to(
     if let Some(Ok(pps)) = &original {
         expected.read.bytes_taken = second.bytes_taken;
         expected.read.pps = expected::record(pps, second.extension_first_bit);
+        expected.read.triples = expected::triples(pps, QpOffsets::default());
         expected.extension = Runs(&pps.pps_extension_data);
         expected::fill(pps, &mut expected.lent);
         reach::accepted(nal, pps, &second, tally);

@@ -115,8 +115,8 @@ impl Case<'_> {
         };
         reach::number(refused, tally);
 
-        let Set { pps, lent } = self.set;
-        let count = lent.write_pps(pps, self.form, &mut out[..room]);
+        let Set { pps, triples, lent } = self.set;
+        let count = lent.write_pps(pps, triples, self.form, &mut out[..room]);
         let ours = Answer {
             by_text: count.refused,
             count,

@@ -12,7 +12,7 @@ pub fn run() {
     asked.push(("30 × 33 tiles, 1,000 slices", most_slices()));
     asked.push(("30 × 33 tiles, 1,000 slices over all", all_over()));
     for (name, record) in asked {
-        let Set { pps, lent } = Set::least(&record);
+        let Set { pps, lent, .. } = Set::least(&record);
         let times = [
             ("grid", time(|| lent.tile_grid(black_box(&pps)))),
             ("plan", time(|| lent.slice_plan(black_box(&pps)))),

@@ -1,4 +1,4 @@
-//! Reading whole sets. Ours clears 30 KB of tables in each call, which the original does not have.
+//! Reading whole sets. Ours clears 36 KB of tables in each call, which the original does not have.
 
 use super::{row, time};
 use crate::reading::{Lengths, Lent, SMALLEST};

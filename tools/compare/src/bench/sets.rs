@@ -22,7 +22,10 @@ pub fn run() {
         for (kind, form, original) in forms {
             row(
                 &format!("write a set, {kind}, {name}"),
-                time(|| set.lent.write_pps(black_box(&set.pps), form, &mut out)),
+                time(|| {
+                    set.lent
+                        .write_pps(black_box(&set.pps), &set.triples, form, &mut out)
+                }),
                 Some(time(|| original(black_box(&record)))),
             );
         }

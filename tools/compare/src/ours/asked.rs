@@ -1,7 +1,7 @@
 //! The questions on a record, as in include/vvc_pps.h.
 
 use super::given::{call, over_tables};
-use super::{Given, Pps};
+use super::{Given, Pps, RectSlice};
 
 #[repr(C)]
 #[derive(Clone, PartialEq)]
@@ -33,19 +33,19 @@ pub struct CoverAnswer {
 }
 
 over_tables! {
-    fn vvc_tile_grid() -> GridAnswer;
-    fn vvc_slice_plan() -> PlanAnswer;
-    fn vvc_cover() -> CoverAnswer;
+    fn vvc_tile_grid(;) -> GridAnswer;
+    fn vvc_slice_plan(;) -> PlanAnswer;
+    fn vvc_cover(;) -> CoverAnswer;
 }
 
 pub fn tile_grid(pps: &Pps, given: &Given<'_>) -> GridAnswer {
-    call!(vvc_tile_grid, pps, given)
+    call!(vvc_tile_grid, pps, given, [], [])
 }
 
 pub fn slice_plan(pps: &Pps, given: &Given<'_>) -> PlanAnswer {
-    call!(vvc_slice_plan, pps, given)
+    call!(vvc_slice_plan, pps, given, [], [])
 }
 
 pub fn cover(pps: &Pps, given: &Given<'_>) -> CoverAnswer {
-    call!(vvc_cover, pps, given)
+    call!(vvc_cover, pps, given, [], [])
 }

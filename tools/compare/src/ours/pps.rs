@@ -1,4 +1,4 @@
-//! The record and what reading answers, as in include/vvc_pps.h.
+//! The record with what stands beside it, and what reading answers, as in include/vvc_pps.h.
 
 #[repr(C)]
 #[derive(Clone, Debug, Default, PartialEq)]
@@ -112,11 +112,31 @@ pub struct Pps {
 }
 
 #[repr(C)]
+#[derive(Clone, Copy, Debug, Default, PartialEq)]
+pub struct RectSlice {
+    pub pps_slice_width_in_tiles_minus1: u32,
+    pub pps_slice_height_in_tiles_minus1: u32,
+    pub split_present: u32,
+    pub pps_num_exp_slices_in_tile: u32,
+    pub delta_present: u32,
+    pub pps_tile_idx_delta_val: i32,
+}
+
+#[repr(C)]
+#[derive(Clone, Copy, Debug, Default, PartialEq)]
+pub struct QpOffsets {
+    pub cb: i32,
+    pub cr: i32,
+    pub joint: i32,
+}
+
+#[repr(C)]
 #[derive(Clone, Debug, Default, PartialEq)]
 pub struct PpsRead {
     pub refused: u8,
     pub bytes_taken: usize,
     pub pps: Pps,
+    pub triples: [QpOffsets; 6],
 }
 
 /// What reading is lent beside the work buffer.
@@ -124,14 +144,8 @@ pub struct Tables<'a> {
     pub subpic_ids: &'a mut [u32],
     pub tile_column_widths: &'a mut [u32],
     pub tile_row_heights: &'a mut [u32],
-    pub slice_widths: &'a mut [u32],
-    pub slice_heights: &'a mut [u32],
-    pub split_present: &'a mut [u8],
-    pub split_counts: &'a mut [u32],
-    pub delta_present: &'a mut [u8],
-    pub deltas: &'a mut [i32],
+    pub entries: &'a mut [RectSlice],
     pub split_heights: &'a mut [u32],
-    pub triples: &'a mut [[i32; 3]; 6],
 }
 
 unsafe extern "C" {
@@ -146,21 +160,10 @@ unsafe extern "C" {
         tile_column_widths_len: usize,
         tile_row_heights: *mut u32,
         tile_row_heights_len: usize,
-        slice_widths: *mut u32,
-        slice_widths_len: usize,
-        slice_heights: *mut u32,
-        slice_heights_len: usize,
-        split_present: *mut u8,
-        split_present_len: usize,
-        split_counts: *mut u32,
-        split_counts_len: usize,
-        delta_present: *mut u8,
-        delta_present_len: usize,
-        deltas: *mut i32,
-        deltas_len: usize,
+        entries: *mut RectSlice,
+        entries_len: usize,
         split_heights: *mut u32,
         split_heights_len: usize,
-        triples: *mut [i32; 3],
     ) -> PpsRead;
 }
 
@@ -177,21 +180,10 @@ pub fn parse_pps(nal: &[u8], work: &mut [u8], t: Tables<'_>) -> PpsRead {
             t.tile_column_widths.len(),
             t.tile_row_heights.as_mut_ptr(),
             t.tile_row_heights.len(),
-            t.slice_widths.as_mut_ptr(),
-            t.slice_widths.len(),
-            t.slice_heights.as_mut_ptr(),
-            t.slice_heights.len(),
-            t.split_present.as_mut_ptr(),
-            t.split_present.len(),
-            t.split_counts.as_mut_ptr(),
-            t.split_counts.len(),
-            t.delta_present.as_mut_ptr(),
-            t.delta_present.len(),
-            t.deltas.as_mut_ptr(),
-            t.deltas.len(),
+            t.entries.as_mut_ptr(),
+            t.entries.len(),
             t.split_heights.as_mut_ptr(),
             t.split_heights.len(),
-            t.triples.as_mut_ptr(),
         )
     }
 }

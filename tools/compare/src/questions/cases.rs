@@ -2,6 +2,7 @@
 
 use super::change::{change, move_about};
 use super::{compare, known, layouts};
+use crate::ours::PpsRead;
 use crate::random::Random;
 use crate::reading::{Lengths, Lent, SMALLEST, unit};
 use crate::sets::Set;
@@ -29,8 +30,8 @@ pub fn random(random: &mut Random, tally: &mut Tally) {
 fn read(random: &mut Random) -> Set {
     let nal = unit(random, 0);
     let mut lent = Lent::new(&Lengths::least(&nal));
-    let pps = lent.parse_pps(&nal).pps;
-    Set { pps, lent }
+    let PpsRead { pps, triples, .. } = lent.parse_pps(&nal);
+    Set { pps, triples, lent }
 }
 
 /// Beside the cases below, a fixed number of records as in `random`, so that all is reached.

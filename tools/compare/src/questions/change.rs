@@ -1,5 +1,6 @@
 //! Changes to a set that the questions tell apart.
 
+use crate::ours::RectSlice;
 use crate::random::Random;
 use crate::sets::Set;
 use crate::sets::change;
@@ -7,7 +8,7 @@ use crate::sets::second::partition;
 
 /// Changes one thing, mostly in the partition.
 pub fn change(random: &mut Random, set: &mut Set) {
-    let Set { pps, lent } = set;
+    let Set { pps, lent, .. } = set;
     let p = &mut pps.partition;
     match random.below(16) {
         0 => p.pps_num_slices_in_pic_minus1 ^= 1,
@@ -21,14 +22,15 @@ pub fn change(random: &mut Random, set: &mut Set) {
         7 => pps.pps_pic_height_in_luma_samples = u32::MAX,
         8..10 => {
             let entry = random.below((p.num_rect_slices as usize).clamp(1, 30));
-            if let Some(height) = lent.slice_heights.lent().get_mut(entry) {
-                *height = random.below(3) as u32;
+            if let Some(entry) = lent.entries.lent().get_mut(entry) {
+                entry.pps_slice_height_in_tiles_minus1 = random.below(3) as u32;
             }
         }
         10 => {
             let entry = random.below((p.num_rect_slices as usize).clamp(1, 30));
-            if let Some(delta) = lent.deltas.lent().get_mut(entry) {
-                *delta = random.pick(&[i32::MIN, i32::MIN + 1, i32::MAX, 0, 1, -1]);
+            if let Some(entry) = lent.entries.lent().get_mut(entry) {
+                let deltas = [i32::MIN, i32::MIN + 1, i32::MAX, 0, 1, -1];
+                entry.pps_tile_idx_delta_val = random.pick(&deltas);
             }
         }
         _ => change::change(random, set),
@@ -38,7 +40,7 @@ pub fn change(random: &mut Random, set: &mut Set) {
 /// Slices with deltas in place of what there is, where there are several tiles. Now and then the last of
 /// them starts at tile 0 and holds all.
 pub fn move_about(random: &mut Random, set: &mut Set) {
-    let Set { pps, lent } = set;
+    let Set { pps, lent, .. } = set;
     let grid = match partition::grid(pps, lent) {
         Ok(grid) if grid.tiles() > 1 && lent.lengths().tables_long() => grid,
         _ => return,
@@ -67,12 +69,14 @@ pub fn move_about(random: &mut Random, set: &mut Set) {
         if next == tile {
             next = (tile + 1) % grid.tiles();
         }
-        lent.slice_widths.lent()[i] = width;
-        lent.slice_heights.lent()[i] = height;
-        lent.split_present.lent()[i] = may_split.into();
-        lent.split_counts.lent()[i] = 0;
-        lent.delta_present.lent()[i] = 1;
-        lent.deltas.lent()[i] = (next as i64 - tile as i64) as i32;
+        lent.entries.lent()[i] = RectSlice {
+            pps_slice_width_in_tiles_minus1: width,
+            pps_slice_height_in_tiles_minus1: height,
+            split_present: may_split.into(),
+            pps_num_exp_slices_in_tile: 0,
+            delta_present: 1,
+            pps_tile_idx_delta_val: (next as i64 - tile as i64) as i32,
+        };
         tile = next;
     }
 }

@@ -21,7 +21,7 @@ struct Known {
 /// Compares each with the counts, and our answers with those that are known.
 pub fn all(tally: &mut Tally) {
     for (record, number) in refused() {
-        let Set { pps, lent } = checked(&record, tally);
+        let Set { pps, lent, .. } = checked(&record, tally);
         let ours = (
             lent.tile_grid(&pps).refused,
             lent.slice_plan(&pps).refused,
@@ -37,7 +37,7 @@ pub fn all(tally: &mut Tally) {
         });
     }
     for (record, known) in accepted() {
-        let Set { pps, lent } = checked(&record, tally);
+        let Set { pps, lent, .. } = checked(&record, tally);
         let grid = Grid::new(&lent.tile_grid(&pps));
         let sizes = (grid.column_widths_in_use(), grid.row_heights_in_use());
         tally.compare(&sizes, &(known.columns, known.rows), 0, || of(&pps));

@@ -32,7 +32,7 @@ pub fn written(set: &Set, refused: u8) -> Option<Result<Vec<u8>, BitstreamError>
 /// Writing refuses a side of 4294967295 samples; the questions refuse flags over 1 and, beyond
 /// those, add two tests to the partition's.
 fn same_tests(set: &Set) -> bool {
-    let Set { pps, lent } = set;
+    let Set { pps, lent, .. } = set;
     let samples = [
         pps.pps_pic_width_in_luma_samples,
         pps.pps_pic_height_in_luma_samples,

@@ -25,7 +25,7 @@ pub struct Picture {
 
 impl Picture {
     pub fn of(set: &Set) -> Self {
-        let Set { pps, lent } = set;
+        let Set { pps, lent, .. } = set;
         let p = &pps.partition;
         let bounds = |samples: u32, sizes_minus1: &[u32]| {
             let ctb_size = 1 << (p.pps_log2_ctu_size_minus5 + 5);
@@ -100,13 +100,14 @@ impl Picture {
     fn slices(&self, last: usize, deltas: bool, lent: &Lent) -> Vec<Vec<Part>> {
         let mut slices = vec![];
         let mut split_heights = lent.split_heights.held();
-        let (mut tile, mut entry) = (0, 0);
+        let (mut tile, mut entries) = (0, lent.entries.held().iter());
         while slices.len() < last {
-            let width = lent.slice_widths.held()[entry] as usize + 1;
-            let height = lent.slice_heights.held()[entry] as usize + 1;
+            let entry = entries.next().expect("an entry for each turn");
+            let width = entry.pps_slice_width_in_tiles_minus1 as usize + 1;
+            let height = entry.pps_slice_height_in_tiles_minus1 as usize + 1;
             let mut heights: &[u32] = &[];
-            if lent.split_present.held()[entry] != 0 {
-                let count = lent.split_counts.held()[entry] as usize;
+            if entry.split_present != 0 {
+                let count = entry.pps_num_exp_slices_in_tile as usize;
                 (heights, split_heights) = split_heights.split_at(count);
             }
             if heights.is_empty() {
@@ -115,14 +116,13 @@ impl Picture {
                 slices.extend(self.split(tile, heights).map(|part| vec![part]));
             }
             if deltas {
-                tile = tile.wrapping_add_signed(lent.deltas.held()[entry] as isize);
+                tile = tile.wrapping_add_signed(entry.pps_tile_idx_delta_val as isize);
             } else {
                 tile += width;
                 if tile.is_multiple_of(self.columns()) {
                     tile += (height - 1) * self.columns();
                 }
             }
-            entry += 1;
         }
         if slices.len() == last {
             let (x, y) = (tile % self.columns(), tile / self.columns());

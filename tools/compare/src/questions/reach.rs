@@ -120,7 +120,7 @@ pub fn accepted(
 
 /// Its place among the reasons in `REACH`.
 fn why_26(set: &Set) -> usize {
-    let Set { pps, lent } = set;
+    let Set { pps, lent, .. } = set;
     if second::flag_over_1(pps) {
         0
     } else if !second::rightly_present(pps) {

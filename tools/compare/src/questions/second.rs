@@ -13,7 +13,7 @@ pub fn refusal(set: &Set) -> u8 {
 }
 
 fn tested(set: &Set) -> Result<(), u8> {
-    let Set { pps, lent } = set;
+    let Set { pps, lent, .. } = set;
     must(tables_long(lent), 5)?;
     must(counts_fit(pps) && splits_fit(set), 5)?;
     must(pps.pps_pic_width_in_luma_samples != 0, 7)?;

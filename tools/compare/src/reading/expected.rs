@@ -1,12 +1,13 @@
-//! What the original's record is in ours, and in the lent tables.
+//! What the original's record is in ours, in the triples beside it and in the lent tables.
 
 use super::lent::Lent;
 use crate::ours::{
-    ChromaToolOffsets, ConfWinOffsets, Deblocking, Partition, Pps, ScalingWinOffsets,
-    SubpicIdMapping,
+    ChromaToolOffsets, ConfWinOffsets, Deblocking, Partition, Pps, QpOffsets, RectSlice,
+    ScalingWinOffsets, SubpicIdMapping,
 };
 use original::h266::pps::{
-    VvcPps, VvcPpsChromaToolOffsets, VvcPpsDeblocking, VvcPpsPartition, VvcPpsSubpicIdMapping,
+    VvcPps, VvcPpsChromaToolOffsets, VvcPpsDeblocking, VvcPpsPartition, VvcPpsRectSlice,
+    VvcPpsSubpicIdMapping,
 };
 
 /// Puts the entries in use into tables that are clear.
@@ -21,29 +22,40 @@ pub fn fill(p: &VvcPps, lent: &mut Lent) {
         lent.tile_row_heights.put(heights.iter().copied());
         fill_slices(part, lent);
     }
-    let chroma = p.chroma_tool_offsets.as_ref();
-    if let Some(list) = chroma.and_then(|c| c.cu_chroma_qp_offset_list.as_ref()) {
-        for (row, &(cb, cr, joint)) in lent.triples.iter_mut().zip(list) {
-            *row = [cb, cr, joint.unwrap_or(0)];
-        }
-    }
 }
 
 fn fill_slices(part: &VvcPpsPartition, lent: &mut Lent) {
-    let entries = || part.rect_slices.iter();
-    let widths = entries().map(|e| e.pps_slice_width_in_tiles_minus1);
-    let heights = entries().map(|e| e.pps_slice_height_in_tiles_minus1);
-    let splits = || entries().map(|e| e.exp_slice_heights_in_ctus_minus1.as_deref());
-    let deltas = || entries().map(|e| e.pps_tile_idx_delta_val);
-    lent.slice_widths.put(widths);
-    lent.slice_heights.put(heights);
-    lent.split_present.put(splits().map(|s| s.is_some().into()));
-    lent.split_counts
-        .put(splits().map(|s| s.map_or(0, |list| list.len() as u32)));
-    lent.split_heights
-        .put(splits().flatten().flatten().copied());
-    lent.delta_present.put(deltas().map(|d| d.is_some().into()));
-    lent.deltas.put(deltas().map(|d| d.unwrap_or(0)));
+    let splits = part
+        .rect_slices
+        .iter()
+        .flat_map(|e| &e.exp_slice_heights_in_ctus_minus1);
+    lent.split_heights.put(splits.flatten().copied());
+    lent.entries.put(part.rect_slices.iter().map(entry));
+}
+
+fn entry(e: &VvcPpsRectSlice) -> RectSlice {
+    let split = e.exp_slice_heights_in_ctus_minus1.as_ref();
+    let delta = e.pps_tile_idx_delta_val;
+    RectSlice {
+        pps_slice_width_in_tiles_minus1: e.pps_slice_width_in_tiles_minus1,
+        pps_slice_height_in_tiles_minus1: e.pps_slice_height_in_tiles_minus1,
+        split_present: split.is_some().into(),
+        pps_num_exp_slices_in_tile: split.map_or(0, Vec::len) as u32,
+        delta_present: delta.is_some().into(),
+        pps_tile_idx_delta_val: delta.unwrap_or(0),
+    }
+}
+
+/// The chroma list, and `rest` behind it.
+pub fn triples(p: &VvcPps, rest: QpOffsets) -> [QpOffsets; 6] {
+    let chroma = p.chroma_tool_offsets.as_ref();
+    let list = chroma.and_then(|c| c.cu_chroma_qp_offset_list.as_ref());
+    let mut triples = [rest; 6];
+    for (place, &(cb, cr, joint)) in triples.iter_mut().zip(list.into_iter().flatten()) {
+        let joint = joint.unwrap_or(0);
+        *place = QpOffsets { cb, cr, joint };
+    }
+    triples
 }
 
 pub fn record(p: &VvcPps, extension_first_bit: usize) -> Pps {

@@ -3,18 +3,19 @@
 
 use crate::escape::GUARD;
 use crate::ours::{
-    self, ByteCount, CoverAnswer, Given, GridAnswer, PlanAnswer, Pps, PpsRead, Tables,
+    self, ByteCount, CoverAnswer, Given, GridAnswer, PlanAnswer, Pps, PpsRead, QpOffsets,
+    RectSlice, Tables,
 };
 use crate::random::Random;
 use std::fmt::{self, Debug};
 
 /// The least lengths of the tables, in the order in which they are lent.
-pub const LEAST: [usize; 10] = [1000, 30, 990, 999, 999, 999, 999, 999, 999, 1000];
+pub const LEAST: [usize; 5] = [1000, 30, 990, 999, 1000];
 
 #[derive(Clone, Copy, Debug, PartialEq)]
 pub struct Lengths {
     pub work: usize,
-    pub tables: [usize; 10],
+    pub tables: [usize; 5],
 }
 
 impl Lengths {
@@ -126,20 +127,24 @@ pub enum Form {
     Nal,
 }
 
+/// What the places of the slice entries hold before the call.
+const ENTRY: RectSlice = RectSlice {
+    pps_slice_width_in_tiles_minus1: 0xA3A3_A3A3,
+    pps_slice_height_in_tiles_minus1: 0xA4A4_A4A4,
+    split_present: 0xA5A5_A5A5,
+    pps_num_exp_slices_in_tile: 0xA6A6_A6A6,
+    delta_present: 0xA7A7_A7A7,
+    pps_tile_idx_delta_val: -0x1234_5678,
+};
+
 #[derive(Clone, Debug, PartialEq)]
 pub struct Lent {
     pub work: Table<u8>,
     pub subpic_ids: Table<u32>,
     pub tile_column_widths: Table<u32>,
     pub tile_row_heights: Table<u32>,
-    pub slice_widths: Table<u32>,
-    pub slice_heights: Table<u32>,
-    pub split_present: Table<u8>,
-    pub split_counts: Table<u32>,
-    pub delta_present: Table<u8>,
-    pub deltas: Table<i32>,
+    pub entries: Table<RectSlice>,
     pub split_heights: Table<u32>,
-    pub triples: [[i32; 3]; 6],
 }
 
 impl Lent {
@@ -150,14 +155,8 @@ impl Lent {
             subpic_ids: Table::new(t[0], 0xA0A0_A0A0),
             tile_column_widths: Table::new(t[1], 0xA1A1_A1A1),
             tile_row_heights: Table::new(t[2], 0xA2A2_A2A2),
-            slice_widths: Table::new(t[3], 0xA3A3_A3A3),
-            slice_heights: Table::new(t[4], 0xA4A4_A4A4),
-            split_present: Table::new(t[5], 0xA5),
-            split_counts: Table::new(t[6], 0xA6A6_A6A6),
-            delta_present: Table::new(t[7], 0xA7),
-            deltas: Table::new(t[8], -0x1234_5678),
-            split_heights: Table::new(t[9], 0xA9A9_A9A9),
-            triples: [[-1, -2, -3]; 6],
+            entries: Table::new(t[3], ENTRY),
+            split_heights: Table::new(t[4], 0xA9A9_A9A9),
         }
     }
 
@@ -168,12 +167,7 @@ impl Lent {
                 self.subpic_ids.len,
                 self.tile_column_widths.len,
                 self.tile_row_heights.len,
-                self.slice_widths.len,
-                self.slice_heights.len,
-                self.split_present.len,
-                self.split_counts.len,
-                self.delta_present.len,
-                self.deltas.len,
+                self.entries.len,
                 self.split_heights.len,
             ],
         }
@@ -184,14 +178,8 @@ impl Lent {
             subpic_ids: self.subpic_ids.lent(),
             tile_column_widths: self.tile_column_widths.lent(),
             tile_row_heights: self.tile_row_heights.lent(),
-            slice_widths: self.slice_widths.lent(),
-            slice_heights: self.slice_heights.lent(),
-            split_present: self.split_present.lent(),
-            split_counts: self.split_counts.lent(),
-            delta_present: self.delta_present.lent(),
-            deltas: self.deltas.lent(),
+            entries: self.entries.lent(),
             split_heights: self.split_heights.lent(),
-            triples: &mut self.triples,
         };
         ours::parse_pps(nal, self.work.lent(), tables)
     }
@@ -201,24 +189,24 @@ impl Lent {
             subpic_ids: self.subpic_ids.held(),
             tile_column_widths: self.tile_column_widths.held(),
             tile_row_heights: self.tile_row_heights.held(),
-            slice_widths: self.slice_widths.held(),
-            slice_heights: self.slice_heights.held(),
-            split_present: self.split_present.held(),
-            split_counts: self.split_counts.held(),
-            delta_present: self.delta_present.held(),
-            deltas: self.deltas.held(),
+            entries: self.entries.held(),
             split_heights: self.split_heights.held(),
-            triples: &self.triples,
             extension: self.work.held(),
         }
     }
 
     /// Writes a record with these tables, its extension bits out of the work buffer.
-    pub fn write_pps(&self, pps: &Pps, form: Form, out: &mut [u8]) -> ByteCount {
+    pub fn write_pps(
+        &self,
+        pps: &Pps,
+        triples: &[QpOffsets; 6],
+        form: Form,
+        out: &mut [u8],
+    ) -> ByteCount {
         let given = self.given();
         match form {
-            Form::Rbsp => ours::write_pps(pps, &given, out),
-            Form::Nal => ours::write_pps_nal(pps, &given, out),
+            Form::Rbsp => ours::write_pps(pps, triples, &given, out),
+            Form::Nal => ours::write_pps_nal(pps, triples, &given, out),
         }
     }
 
@@ -238,13 +226,7 @@ impl Lent {
         self.subpic_ids.clear();
         self.tile_column_widths.clear();
         self.tile_row_heights.clear();
-        self.slice_widths.clear();
-        self.slice_heights.clear();
-        self.split_present.clear();
-        self.split_counts.clear();
-        self.delta_present.clear();
-        self.deltas.clear();
+        self.entries.clear();
         self.split_heights.clear();
-        self.triples = [[0; 3]; 6];
     }
 }

@@ -62,7 +62,7 @@ pub fn compare(nal: &[u8], lengths: &Lengths, read: &PpsRead, lent: &Lent, tally
 
 fn write(form: Form, room: usize, read: &PpsRead, lent: &Lent) -> (ByteCount, Vec<u8>) {
     let mut out = pattern(room + GUARD);
-    let count = lent.write_pps(&read.pps, form, &mut out[..room]);
+    let count = lent.write_pps(&read.pps, &read.triples, form, &mut out[..room]);
     (count, out)
 }
 

@@ -3,6 +3,7 @@
 use super::change::change;
 use super::record::Set;
 use super::{compare, fields, known};
+use crate::ours::RectSlice;
 use crate::random::Random;
 use crate::reading::{LEAST, Lengths, SMALLEST, unit};
 use crate::tally::Tally;
@@ -67,19 +68,37 @@ pub fn ample(len: usize) -> [usize; 1] {
 /// Each field with each of the values that the tests tell apart, on their sides.
 pub fn every_field(set: &Set, compare: &mut impl FnMut(&Set)) {
     let numbers = [
-        0, 1, 2, 5, 6, 7, 14, 15, 16, 29, 30, 31, 989, 990, 991, 998, 999, 1000, 1001,
+        0, 1, 2, 5, 6, 7, 14, 15, 16, 29, 30, 31, 256, 989, 990, 991, 998, 999, 1000, 1001,
     ];
-    let numbers = || numbers.into_iter().chain([u32::MAX - 1, u32::MAX]);
+    let numbers = || numbers.into_iter().chain([1 << 31, u32::MAX - 1, u32::MAX]);
     let signed = || [i32::MIN, i32::MIN + 1, -13, -12, 0, 12, 13, i32::MAX].into_iter();
     let bytes = || [0, 1, 2, 3, 15, 16, 63, 64, 128, 255].into_iter();
     with_each(set, |set| fields::bytes(&mut set.pps), bytes, compare);
     with_each(set, |set| fields::numbers(&mut set.pps), numbers, compare);
     with_each(set, |set| fields::signed(&mut set.pps), signed, compare);
     with_each(set, triples, signed, compare);
+    with_each(set, entry_numbers, numbers, compare);
+    with_each(set, deltas, signed, compare);
 }
 
 fn triples(set: &mut Set) -> Vec<&mut i32> {
-    set.lent.triples.iter_mut().flatten().collect()
+    fields::offsets(&mut set.triples)
+}
+
+/// Of the first entries in use.
+fn few_entries(set: &mut Set) -> &mut [RectSlice] {
+    let used = (set.pps.partition.num_rect_slices as usize).min(3);
+    let lent = set.lent.entries.lent();
+    let count = used.min(lent.len());
+    &mut lent[..count]
+}
+
+fn entry_numbers(set: &mut Set) -> Vec<&mut u32> {
+    fields::entry_numbers(few_entries(set))
+}
+
+fn deltas(set: &mut Set) -> Vec<&mut i32> {
+    fields::deltas(few_entries(set))
 }
 
 fn with_each<T: Copy, V: Iterator<Item = T>>(

@@ -9,37 +9,44 @@ use crate::random::Random;
 /// Changes one field, or one entry of a table.
 pub fn change(random: &mut Random, set: &mut Set) {
     let limits = limits(set);
-    let Set { pps, lent } = set;
+    let Set { pps, triples, lent } = set;
     let any = random.next() as usize;
+    let entries = pps.partition.num_rect_slices;
     match random.below(40) {
         0..9 => byte(random, one_of(any, fields::bytes(pps))),
         9..18 => number(random, one_of(any, fields::numbers(pps)), &limits),
         18..22 => signed(random, one_of(any, fields::signed(pps)), &limits),
-        22 => {
-            let offsets = lent.triples.iter_mut().flatten().collect();
-            signed(random, one_of(any, offsets), &limits);
-        }
+        22 => signed(random, one_of(any, fields::offsets(triples)), &limits),
         23..26 => extension(random, pps, lent.work.lent()),
         26..29 => {
-            let tables = vec![&mut lent.split_present, &mut lent.delta_present];
-            let table = one_of(any, tables).lent();
-            byte(random, entry(any, table, pps.partition.num_rect_slices));
+            let entry = entry(any, lent.entries.lent(), entries);
+            let flag = entry.map(|e| one_of(any, vec![&mut e.split_present, &mut e.delta_present]));
+            presence(random, flag);
         }
         29..31 => {
-            let table = lent.deltas.lent();
-            let delta = entry(any, table, pps.partition.num_rect_slices);
+            let entry = entry(any, lent.entries.lent(), entries);
+            let delta = entry.map(|e| &mut e.pps_tile_idx_delta_val);
             signed(random, delta, &limits);
+        }
+        31..35 => {
+            let place = random.next() as usize;
+            let entry = entry(place, lent.entries.lent(), entries);
+            let size = entry.map(|e| {
+                let sizes = vec![
+                    &mut e.pps_slice_width_in_tiles_minus1,
+                    &mut e.pps_slice_height_in_tiles_minus1,
+                    &mut e.pps_num_exp_slices_in_tile,
+                ];
+                one_of(any, sizes)
+            });
+            number(random, size, &limits);
         }
         _ => {
             let part = &pps.partition;
-            let entries = part.num_rect_slices;
             let tables = vec![
                 (&mut lent.subpic_ids, pps.subpic_id_mapping.num_subpic_ids),
                 (&mut lent.tile_column_widths, part.num_tile_column_widths),
                 (&mut lent.tile_row_heights, part.num_tile_row_heights),
-                (&mut lent.slice_widths, entries),
-                (&mut lent.slice_heights, entries),
-                (&mut lent.split_counts, entries),
                 (&mut lent.split_heights, entries),
             ];
             let (table, used) = one_of(any, tables);
@@ -63,7 +70,7 @@ fn entry<T>(any: usize, table: &mut [T], used: u32) -> Option<&mut T> {
 
 /// The limits of the fields, and those that follow from the record.
 fn limits(set: &Set) -> Vec<u32> {
-    let Set { pps, lent } = set;
+    let Set { pps, lent, .. } = set;
     let id_len_minus1 = pps.subpic_id_mapping.pps_subpic_id_len_minus1;
     let mut limits = vec![1, 6, 14, 15, 30, 990, 999, 1000, 2 << id_len_minus1.min(15)];
     limits.push(pps.partition.pps_num_slices_in_pic_minus1.into());
@@ -81,6 +88,16 @@ fn byte<'a>(random: &mut Random, place: impl Into<Option<&'a mut u8>>) {
         0 => random.pick(&[0, 1, 2, 3, 15, 16, 63, 64, 128, 255]),
         1 => random.byte(),
         _ => u8::from(*value == 0),
+    };
+}
+
+/// All but 0 is present, the bits above the lowest byte too.
+fn presence<'a>(random: &mut Random, place: impl Into<Option<&'a mut u32>>) {
+    let Some(value) = place.into() else { return };
+    *value = match random.below(4) {
+        0 => random.pick(&[0, 1, 2, 255, 256, 1 << 16, 1 << 31, u32::MAX]),
+        1 => random.next() as u32,
+        _ => u32::from(*value == 0),
     };
 }
 

@@ -1,6 +1,7 @@
-//! The fields of a record by their types, to be changed one at a time.
+//! The fields of a record, of its slice entries and its triples by their types, to be changed one at
+//! a time.
 
-use crate::ours::Pps;
+use crate::ours::{Pps, QpOffsets, RectSlice};
 
 pub fn bytes(p: &mut Pps) -> Vec<&mut u8> {
     let (part, chroma, deblocking) = (
@@ -94,4 +95,32 @@ pub fn signed(p: &mut Pps) -> Vec<&mut i32> {
         &mut deblocking.pps_cr_beta_offset_div2,
         &mut deblocking.pps_cr_tc_offset_div2,
     ]
+}
+
+/// Presence flags too, of which all but 0 say the same.
+pub fn entry_numbers(entries: &mut [RectSlice]) -> Vec<&mut u32> {
+    let mut numbers = vec![];
+    for e in entries {
+        numbers.extend([
+            &mut e.pps_slice_width_in_tiles_minus1,
+            &mut e.pps_slice_height_in_tiles_minus1,
+            &mut e.split_present,
+            &mut e.pps_num_exp_slices_in_tile,
+            &mut e.delta_present,
+        ]);
+    }
+    numbers
+}
+
+pub fn deltas(entries: &mut [RectSlice]) -> Vec<&mut i32> {
+    let deltas = entries.iter_mut().map(|e| &mut e.pps_tile_idx_delta_val);
+    deltas.collect()
+}
+
+pub fn offsets(triples: &mut [QpOffsets; 6]) -> Vec<&mut i32> {
+    let mut offsets = vec![];
+    for triple in triples {
+        offsets.extend([&mut triple.cb, &mut triple.cr, &mut triple.joint]);
+    }
+    offsets
 }

@@ -26,7 +26,9 @@ fn known(record: &VvcPps, changes: &[(u8, Change)], tally: &mut Tally) {
         change(&mut set);
         compare(&set, ample, tally);
         let mut out = [0; 100];
-        let count = set.lent.write_pps(&set.pps, Form::Nal, &mut out);
+        let count = set
+            .lent
+            .write_pps(&set.pps, &set.triples, Form::Nal, &mut out);
         tally.compare(&count.refused, &number, 0, || {
             format!("number of change {i} to a known set")
         });

@@ -126,6 +126,11 @@ pub fn accepted(set: &Set, p: &VvcPps, nal: &[u8], tally: &mut Tally) {
 fn read_otherwise(set: &Set, entries: usize, nal: &[u8]) -> bool {
     let mut lent = Lent::new(&Lengths::least(nal));
     let refused = lent.parse_pps(nal).refused;
-    let heights = |lent: &Lent| lent.slice_heights.held()[..entries].to_vec();
+    let heights = |lent: &Lent| -> Vec<u32> {
+        let entries = lent.entries.held()[..entries].iter();
+        entries
+            .map(|e| e.pps_slice_height_in_tiles_minus1)
+            .collect()
+    };
     refused != 0 || heights(&lent) != heights(&set.lent)
 }

@@ -1,21 +1,29 @@
-//! A record with what is lent beside it, and the original's record of the same set.
+//! A record with what stands and is lent beside it, and the original's record of the same set.
 
-use crate::ours::{Partition, Pps};
+use crate::ours::{Partition, Pps, QpOffsets, RectSlice};
 use crate::reading::{Lengths, Lent, expected, extension};
 use original::h266::pps::{
     VvcPps, VvcPpsChromaToolOffsets, VvcPpsDeblocking, VvcPpsPartition, VvcPpsRectSlice,
     VvcPpsSubpicIdMapping,
 };
 
+/// A triple past the list.
+const BEHIND_THE_LIST: QpOffsets = QpOffsets {
+    cb: -1,
+    cr: -2,
+    joint: -3,
+};
+
 #[derive(Clone, Debug)]
 pub struct Set {
     pub pps: Pps,
+    pub triples: [QpOffsets; 6],
     pub lent: Lent,
 }
 
 impl Set {
-    /// The extension bits lie in the work buffer from a bit on; its other bytes and the unused places
-    /// of the tables hold anything.
+    /// The extension bits lie in the work buffer from a bit on; its other bytes, the unused places
+    /// of the tables and the triples past the list hold anything.
     pub fn new(record: &VvcPps, lengths: &Lengths, first_bit: usize) -> Self {
         let mut lent = Lent::new(lengths);
         expected::fill(record, &mut lent);
@@ -32,6 +40,7 @@ impl Set {
         }
         Set {
             pps: expected::record(record, first_bit),
+            triples: expected::triples(record, BEHIND_THE_LIST),
             lent,
         }
     }
@@ -110,9 +119,9 @@ impl Set {
         let joint = c.pps_joint_cbcr_qp_offset_present_flag != 0;
         // Seven stand for any number over six.
         let listed = c.cu_chroma_qp_offset_list_len.min(7) as usize;
-        let triple = |i| {
-            let [cb, cr, third] = self.lent.triples.get(i).copied().unwrap_or_default();
-            (cb, cr, joint.then_some(third))
+        let triple = |i: usize| {
+            let triple = self.triples.get(i).copied().unwrap_or_default();
+            (triple.cb, triple.cr, joint.then_some(triple.joint))
         };
         (c.present != 0).then(|| VvcPpsChromaToolOffsets {
             pps_cb_qp_offset: c.pps_cb_qp_offset,
@@ -163,14 +172,14 @@ fn partition(p: &Partition, lent: &Lent) -> VvcPpsPartition {
 
 fn rect_slices(count: usize, lent: &Lent) -> Vec<VvcPpsRectSlice> {
     let mut split_heights = lent.split_heights.held().iter().copied();
-    let entry = |i: usize| VvcPpsRectSlice {
-        pps_slice_width_in_tiles_minus1: lent.slice_widths.held()[i],
-        pps_slice_height_in_tiles_minus1: lent.slice_heights.held()[i],
-        exp_slice_heights_in_ctus_minus1: (lent.split_present.held()[i] != 0).then(|| {
-            let count = lent.split_counts.held()[i] as usize;
+    let entry = |e: &RectSlice| VvcPpsRectSlice {
+        pps_slice_width_in_tiles_minus1: e.pps_slice_width_in_tiles_minus1,
+        pps_slice_height_in_tiles_minus1: e.pps_slice_height_in_tiles_minus1,
+        exp_slice_heights_in_ctus_minus1: (e.split_present != 0).then(|| {
+            let count = e.pps_num_exp_slices_in_tile as usize;
             split_heights.by_ref().take(count).collect()
         }),
-        pps_tile_idx_delta_val: (lent.delta_present.held()[i] != 0).then(|| lent.deltas.held()[i]),
+        pps_tile_idx_delta_val: (e.delta_present != 0).then_some(e.pps_tile_idx_delta_val),
     };
-    (0..count).map(entry).collect()
+    lent.entries.held()[..count].iter().map(entry).collect()
 }

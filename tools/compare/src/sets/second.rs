@@ -5,7 +5,7 @@
 pub mod partition;
 
 use super::record::Set;
-use crate::ours::{ChromaToolOffsets, Deblocking, Pps, SubpicIdMapping};
+use crate::ours::{ChromaToolOffsets, Deblocking, Pps, QpOffsets, SubpicIdMapping};
 use crate::reading::Lent;
 use crate::reading::second::must;
 
@@ -15,7 +15,7 @@ pub fn refusal(set: &Set) -> u8 {
 }
 
 fn tested(set: &Set) -> Result<(), u8> {
-    let Set { pps, lent } = set;
+    let Set { pps, triples, lent } = set;
     must(tables_long(lent), 5)?;
     must(counts_fit(pps) && splits_fit(set) && extension_lent(set), 5)?;
     let partitioned = pps.pps_no_pic_partition_flag == 0;
@@ -27,7 +27,7 @@ fn tested(set: &Set) -> Result<(), u8> {
     if partitioned {
         partition::tested(pps, lent, partition::By::Writing)?;
     }
-    back(pps, &lent.triples)?;
+    back(pps, triples)?;
     extension(set)
 }
 
@@ -50,13 +50,12 @@ pub fn counts_fit(p: &Pps) -> bool {
 
 /// The split heights of the entries in use are no more than their table holds.
 pub fn splits_fit(set: &Set) -> bool {
-    let Set { pps, lent } = set;
-    let present = lent.split_present.held().iter();
-    let counts = present.zip(lent.split_counts.held());
-    let sum: u64 = counts
+    let Set { pps, lent, .. } = set;
+    let entries = lent.entries.held().iter();
+    let sum: u64 = entries
         .take(pps.partition.num_rect_slices as usize)
-        .filter(|&(&present, _)| present != 0)
-        .map(|(_, &count)| u64::from(count))
+        .filter(|e| e.split_present != 0)
+        .map(|e| u64::from(e.pps_num_exp_slices_in_tile))
         .sum();
     pps.partition.present == 0 || sum <= 1000
 }
@@ -120,7 +119,7 @@ fn subpic_ids(m: &SubpicIdMapping, partitioned: bool, ids: &[u32]) -> Result<(),
     must(ids.iter().all(|&id| id < too_large), 27)
 }
 
-fn back(p: &Pps, triples: &[[i32; 3]; 6]) -> Result<(), u8> {
+fn back(p: &Pps, triples: &[QpOffsets; 6]) -> Result<(), u8> {
     must(p.pps_num_ref_idx_default_active_minus1_l0 <= 14, 20)?;
     must(p.pps_num_ref_idx_default_active_minus1_l1 <= 14, 20)?;
     if p.pps_ref_wraparound_enabled_flag != 0 {
@@ -137,7 +136,7 @@ fn back(p: &Pps, triples: &[[i32; 3]; 6]) -> Result<(), u8> {
     Ok(())
 }
 
-fn chroma_tool_offsets(c: &ChromaToolOffsets, triples: &[[i32; 3]; 6]) -> Result<(), u8> {
+fn chroma_tool_offsets(c: &ChromaToolOffsets, triples: &[QpOffsets; 6]) -> Result<(), u8> {
     offset(c.pps_cb_qp_offset)?;
     offset(c.pps_cr_qp_offset)?;
     let joint = c.pps_joint_cbcr_qp_offset_present_flag != 0;
@@ -147,11 +146,13 @@ fn chroma_tool_offsets(c: &ChromaToolOffsets, triples: &[[i32; 3]; 6]) -> Result
     if c.pps_cu_chroma_qp_offset_list_enabled_flag != 0 {
         let len = c.cu_chroma_qp_offset_list_len;
         must((1..=6).contains(&len), 21)?;
-        let coded = if joint { 3 } else { 2 };
-        let listed = triples[..len as usize].iter();
-        listed
-            .flat_map(|row| &row[..coded])
-            .try_for_each(|&value| offset(value))?;
+        for triple in &triples[..len as usize] {
+            offset(triple.cb)?;
+            offset(triple.cr)?;
+            if joint {
+                offset(triple.joint)?;
+            }
+        }
     }
     Ok(())
 }

@@ -120,13 +120,17 @@ pub const PARTITIONED: &[(u8, Change)] = &[
     (26, |s| one_tile(s, 2)),
     (26, |s| s.pps.partition.pps_single_slice_per_subpic_flag = 1),
     (14, |s| s.pps.partition.pps_num_slices_in_pic_minus1 = 1000),
-    (15, |s| s.lent.slice_widths.lent()[0] = 2),
-    (16, |s| s.lent.split_counts.lent()[0] = 2),
+    (15, |s| {
+        s.lent.entries.lent()[0].pps_slice_width_in_tiles_minus1 = 2
+    }),
+    (16, |s| {
+        s.lent.entries.lent()[0].pps_num_exp_slices_in_tile = 2
+    }),
     (16, |s| s.lent.split_heights.lent()[0] = 2),
     // A row of 3 CTBs: heights 2 and 2 pass it.
     (16, |s| {
         s.lent.tile_row_heights.lent()[0] = 2;
-        s.lent.split_counts.lent()[0] = 2;
+        s.lent.entries.lent()[0].pps_num_exp_slices_in_tile = 2;
         s.lent.split_heights.lent()[..2].fill(1);
     }),
     (17, |s| s.lent.tile_row_heights.lent()[0] = 3),
@@ -145,17 +149,19 @@ pub const PARTITIONED: &[(u8, Change)] = &[
     // One row, and a slice of all its tiles.
     (19, |s| {
         s.lent.tile_row_heights.lent()[0] = 3;
-        s.lent.slice_widths.lent()[0] = 1;
-        s.lent.split_present.lent()[0] = 0;
+        s.lent.entries.lent()[0].pps_slice_width_in_tiles_minus1 = 1;
+        s.lent.entries.lent()[0].split_present = 0;
     }),
-    (5, |s| s.lent.split_counts.lent()[0] = 1001),
-    (26, |s| s.lent.split_present.lent()[0] = 0),
-    (26, |s| s.lent.delta_present.lent()[0] = 1),
+    (5, |s| {
+        s.lent.entries.lent()[0].pps_num_exp_slices_in_tile = 1001
+    }),
+    (26, |s| s.lent.entries.lent()[0].split_present = 0),
+    (26, |s| s.lent.entries.lent()[0].delta_present = 1),
     (26, |s| s.pps.partition.pps_tile_idx_delta_present_flag = 1),
     (26, |s| s.pps.partition.num_rect_slices = 0),
     (26, |s| {
         s.pps.partition.num_rect_slices = 2;
-        s.lent.split_present.lent()[1] = 0;
+        s.lent.entries.lent()[1].split_present = 0;
     }),
     (5, |s| s.pps.partition.num_rect_slices = 1000),
     (21, |s| s.pps.chroma_tool_offsets.pps_cb_qp_offset = 13),
@@ -166,14 +172,14 @@ pub const PARTITIONED: &[(u8, Change)] = &[
             .pps_joint_cbcr_qp_offset_present_flag = 1;
         s.pps.chroma_tool_offsets.pps_joint_cbcr_qp_offset_value = 13;
     }),
-    (21, |s| s.lent.triples[0][0] = -13),
-    (21, |s| s.lent.triples[0][1] = 13),
-    (0, |s| s.lent.triples[0][2] = 13),
+    (21, |s| s.triples[0].cb = -13),
+    (21, |s| s.triples[0].cr = 13),
+    (0, |s| s.triples[0].joint = 13),
     (21, |s| {
         s.pps
             .chroma_tool_offsets
             .pps_joint_cbcr_qp_offset_present_flag = 1;
-        s.lent.triples[0][2] = 13;
+        s.triples[0].joint = 13;
     }),
     (21, |s| {
         s.pps.chroma_tool_offsets.cu_chroma_qp_offset_list_len = 7
@@ -185,8 +191,8 @@ pub const PARTITIONED: &[(u8, Change)] = &[
 
 fn deltas(s: &mut Set, delta: i32) {
     s.pps.partition.pps_tile_idx_delta_present_flag = 1;
-    s.lent.delta_present.lent()[0] = 1;
-    s.lent.deltas.lent()[0] = delta;
+    s.lent.entries.lent()[0].delta_present = 1;
+    s.lent.entries.lent()[0].pps_tile_idx_delta_val = delta;
 }
 
 fn one_tile(s: &mut Set, rect_slice_flag: u8) {

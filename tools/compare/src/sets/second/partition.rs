@@ -68,11 +68,12 @@ fn slices(p: &Partition, grid: &Grid, lent: &Lent, by: By) -> Result<(), u8> {
     let last = u64::from(p.pps_num_slices_in_pic_minus1);
     let deltas = p.pps_tile_idx_delta_present_flag != 0;
     let mut split_heights = lent.split_heights.held();
-    let (mut slice, mut tile, mut entry, mut preceding_height) = (0, 0, 0, 0);
+    let mut entries = lent.entries.held()[..p.num_rect_slices as usize].iter();
+    let (mut slice, mut tile, mut preceding_height) = (0, 0, 0);
     while slice < last {
-        must(entry < p.num_rect_slices as usize, 26)?;
-        let width = u64::from(lent.slice_widths.held()[entry]);
-        let height = u64::from(lent.slice_heights.held()[entry]);
+        let entry = entries.next().ok_or(26)?;
+        let width = u64::from(entry.pps_slice_width_in_tiles_minus1);
+        let height = u64::from(entry.pps_slice_height_in_tiles_minus1);
         let (column, row) = (tile % grid.columns, tile / grid.columns);
         must(column + width < grid.columns, 15)?;
         must(row + height < grid.rows(), 15)?;
@@ -86,9 +87,9 @@ fn slices(p: &Partition, grid: &Grid, lent: &Lent, by: By) -> Result<(), u8> {
         preceding_height = height;
         let row_height = grid.row_heights[row as usize];
         let may_split = width == 0 && height == 0 && row_height > 1;
-        must((lent.split_present.held()[entry] != 0) == may_split, 26)?;
+        must((entry.split_present != 0) == may_split, 26)?;
         if may_split {
-            let count = lent.split_counts.held()[entry];
+            let count = entry.pps_num_exp_slices_in_tile;
             must(u64::from(count) < row_height, 16)?;
             let heights = sizes(split_heights, count);
             must(heights.iter().all(|&height| height <= row_height), 16)?;
@@ -96,17 +97,16 @@ fn slices(p: &Partition, grid: &Grid, lent: &Lent, by: By) -> Result<(), u8> {
             slice += slices_of_tile(&heights, row_height, last - slice + 1)? - 1;
         }
         // A delta stands where deltas are on and slices are to come.
-        let delta = lent.delta_present.held()[entry] != 0;
+        let delta = entry.delta_present != 0;
         must(delta == (deltas && slice < last), 26)?;
         if delta {
-            let delta = lent.deltas.held()[entry];
+            let delta = entry.pps_tile_idx_delta_val;
             must(delta != i32::MIN, 25)?;
             tile = moved(tile, delta.into(), grid.tiles())?;
         } else if slice < last {
             tile = grid.next(tile, width, height)?;
         }
         slice += 1;
-        entry += 1;
     }
-    must(entry == p.num_rect_slices as usize, 26)
+    must(entries.next().is_none(), 26)
 }
