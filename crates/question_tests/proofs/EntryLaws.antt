@@ -14,10 +14,11 @@ use Rattle.pps_tables.specs.declared.RectSliceEntry.{RectSliceEntry}
 use Rattle.slice_loop.specs.declared.TileIdx.{TileIdx}
 use Rattle.slice_loop.specs.Answers.{tileIdx, nextByDelta}
 use Rattle.slice_loop.specs.Laws.{held-outside, delta-number}
+use Rattle.slice_loop.specs.Loop.{position}
 use Rattle.tile_sizes.specs.Answers.{slicesInTile}
 use Rattle.tile_sizes.specs.Laws.{slices-number, slices-count}
 use Rattle.question_tests.specs.Tables.{entryWith}
-use Rattle.question_tests.specs.Steps.{position, movedTo}
+use Rattle.question_tests.specs.Steps.{movedTo}
 use Rattle.question_tests.proofs.TestLaws.{test-made, no-test}
 
 -- ---- sizes

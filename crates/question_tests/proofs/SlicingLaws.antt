@@ -1,15 +1,15 @@
 -- The tests of a partition whose grid is accepted, as the code makes them.
 use mathlib.Core.Path.{_≡_, refl, sym, ap, _∙_}
 use mathlib.Core.List.{List, []}
-use mathlib.Core.Bool.{Bool, true, false, cond, not, _&&_, _||_}
+use mathlib.Core.Bool.{Bool, true, false, cond, not, _&&_}
 use Prim.Native.Nat.{ℕ, _≤_}
 use native.Mathlib.Omega.{arith}
 use lib.Dec.{ltb, leb, eqb, lit<}
-use borrow.Author.Tests.{ltb-true, ltb-false, le-leb, lt-leb}
+use borrow.Author.Tests.{ltb-false}
 use Rattle.partition.specs.Checks.{Check, fine, firstBad, numberOf, AllPass, passes, Numbered, zero-fine, number-refused}
 use Rattle.partition.specs.Entry.{asking, firstPosition}
-use Rattle.partition.specs.Grid.{Grid, tiles, columns, rows, maxTileColumns, maxTiles, maxSlicesMinus1}
-use Rattle.partition.specs.Partition.{Layout, declined, fromWalk, unless}
+use Rattle.partition.specs.Grid.{Grid, tiles, maxSlicesMinus1}
+use Rattle.partition.specs.Partition.{fromWalk, unless}
 use Rattle.partition.specs.Walk.{Walked, refused, placed, walk}
 use Rattle.pps_record.specs.declared.VvcPpsPartition.{VvcPpsPartition}
 use Rattle.pps_syntax.specs.BlockRefusal.{declinedWith}
@@ -18,7 +18,6 @@ use Rattle.pps_syntax.specs.SliceTables.{SliceTables}
 use Rattle.pps_syntax.specs.WalkRefusal.{walkRefusal}
 use Rattle.syntax.specs.Elements.{isSet}
 use Rattle.question_tests.specs.Questions.{slicingChecks, entriesIn, slicedIn}
-use Rattle.question_tests.specs.Steps.{withinLimits, slicedWithin}
 use Rattle.question_tests.proofs.TestLaws.{test-made, no-test}
 
 -- a flag that is not set
@@ -60,15 +59,8 @@ unfolding walkRefusal declinedWith fromWalk
 walked-number g (refused n) = refl
 walked-number g (placed ps) = refl
 
-pub within-both : (g : Grid) → (ltb maxTileColumns (columns g) || ltb maxTiles (rows g)) ≡ false → (columns g ≤ maxTileColumns) × (rows g ≤ maxTiles)
-within-both g h = go (ltb maxTileColumns (columns g)) (ltb maxTiles (rows g)) refl refl h
-  where
-    go : (a b : Bool) → ltb maxTileColumns (columns g) ≡ a → ltb maxTiles (rows g) ≡ b → (a || b) ≡ false → (columns g ≤ maxTileColumns) × (rows g ≤ maxTiles)
-    go true b x y z = absurd (let w : _≡_ {A = ℕ} 0 1 = cc in omega arith)
-    go false true x y z = absurd (let w : _≡_ {A = ℕ} 0 1 = cc in omega arith)
-    go false false x y z = (ltb-false maxTileColumns (columns g) x, ltb-false maxTiles (rows g) y)
-
-module _ (g : Grid) (p : VvcPpsPartition) (t : SliceTables) where
+-- in a grid of T tiles
+module _ (g : Grid) (p : VvcPpsPartition) (t : SliceTables) (T : ℕ) (tiled : T ≡ tiles g) where
   abbrev on : Bool
   on = coded (p .«pps_rect_slice_flag») (p .«pps_single_slice_per_subpic_flag»)
 
@@ -76,38 +68,22 @@ module _ (g : Grid) (p : VvcPpsPartition) (t : SliceTables) where
   deltas = isSet (p .«pps_tile_idx_delta_present_flag»)
 
   abbrev checks : List Check
-  checks = slicingChecks (tiles g) (isSet (p .«pps_rect_slice_flag»)) on (p .«pps_num_slices_in_pic_minus1») deltas (p .«num_rect_slices»)
+  checks = slicingChecks T (isSet (p .«pps_rect_slice_flag»)) on (p .«pps_num_slices_in_pic_minus1») deltas (p .«num_rect_slices»)
 
-  abbrev walked : Walked
-  walked = walk asking g deltas (p .«pps_num_slices_in_pic_minus1») firstPosition (entriesIn t (p .«num_rect_slices»))
+  abbrev walked : Grid → Walked
+  walked h = walk asking h deltas (p .«pps_num_slices_in_pic_minus1») firstPosition (entriesIn t (p .«num_rect_slices»))
 
-  past : (b : Bool) (l : Layout) → b ≡ false → 13 ≡ declinedWith (cond b l (declined 13))
-  unfolding declinedWith
-  past b l e = rw e
+  pub stopped-before : (r : ℕ) → r ≡ numberOf (firstBad checks) → (r ≡ 0 → ⊥) → r ≡ declinedWith (slicedIn g p t)
+  unfolding slicedIn unless declinedWith
+  stopped-before r e z = rw (← tiled, number-refused (firstBad checks) r e z)
 
-  pub past-limits : (ltb maxTileColumns (columns g) || ltb maxTiles (rows g)) ≡ true → 13 ≡ declinedWith (slicedWithin g p t)
-  unfolding slicedWithin withinLimits
-  past-limits h = past (leb (columns g) maxTileColumns && leb (rows g) maxTiles) (slicedIn g p t) (go (ltb maxTileColumns (columns g)) (ltb maxTiles (rows g)) refl refl h)
-    where
-      go : (a b : Bool) → ltb maxTileColumns (columns g) ≡ a → ltb maxTiles (rows g) ≡ b → (a || b) ≡ true → (leb (columns g) maxTileColumns && leb (rows g) maxTiles) ≡ false
-      go true b x y z = rw (lt-leb (columns g) maxTileColumns (ltb-true maxTileColumns (columns g) x))
-      go false true x y z = rw (le-leb (columns g) maxTileColumns (ltb-false maxTileColumns (columns g) x), lt-leb (rows g) maxTiles (ltb-true maxTiles (rows g) y))
-      go false false x y z = absurd (let w : _≡_ {A = ℕ} 0 1 = cc in omega arith)
-
-  module _ (limits : (columns g ≤ maxTileColumns) × (rows g ≤ maxTiles)) where
-    within : slicedWithin g p t ≡ slicedIn g p t
-    unfolding slicedWithin withinLimits
-    within = rw (le-leb (columns g) maxTileColumns (limits .0), le-leb (rows g) maxTiles (limits .1))
-
-    pub stopped-before : (r : ℕ) → r ≡ numberOf (firstBad checks) → (r ≡ 0 → ⊥) → r ≡ declinedWith (slicedWithin g p t)
+  module _ (pass : firstBad checks ≡ fine) where
+    pub uncoded : on ≡ false → 0 ≡ declinedWith (slicedIn g p t)
     unfolding slicedIn unless declinedWith
-    stopped-before r e z = rw (within, number-refused (firstBad checks) r e z)
+    uncoded e = rw (← tiled, pass, e)
 
-    module _ (pass : firstBad checks ≡ fine) where
-      pub uncoded : on ≡ false → 0 ≡ declinedWith (slicedWithin g p t)
-      unfolding slicedIn unless declinedWith
-      uncoded e = rw (within, pass, e)
-
-      pub walks : on ≡ true → (r : ℕ) → r ≡ walkRefusal walked → r ≡ declinedWith (slicedWithin g p t)
-      unfolding slicedIn unless
-      walks e r q = rw (within, pass, e) (q ∙ walked-number g walked)
+    pub walks : on ≡ true → (h : Grid) → h ≡ g → (r : ℕ) → r ≡ walkRefusal (walked h)
+        → r ≡ declinedWith (slicedIn g p t)
+    unfolding slicedIn unless
+    walks e h same r q =
+        rw (← tiled, pass, e) (q ∙ ap (λ (k : Grid). walkRefusal (walked k)) same ∙ walked-number g (walked g))

@@ -13,9 +13,10 @@ use Rattle.partition.specs.Sizes.{sum, explicitSizes}
 use Rattle.pps_tables.specs.declared.RectSliceEntry.{RectSliceEntry}
 use Rattle.slice_loop.specs.declared.TileIdx.{TileIdx}
 use Rattle.slice_loop.specs.declared.SliceIdx.{SliceIdx}
+use Rattle.slice_loop.specs.Loop.{position}
 use Rattle.tile_sizes.specs.Answers.{slicesInTile}
 use Rattle.question_tests.specs.Tables.{entryWith}
-use Rattle.question_tests.specs.Steps.{position, movedTo, Stepped}
+use Rattle.question_tests.specs.Steps.{movedTo, Stepped}
 use Rattle.question_tests.specs.Walking.{tile-after}
 use Rattle.question_tests.proofs.TestLaws.{lists-made}
 use Rattle.question_tests.proofs.EntryLaws.{behind}

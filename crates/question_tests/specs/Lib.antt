@@ -1,4 +1,5 @@
 pub mod Questions
+pub mod InUse
 pub mod Steps
 pub mod Tables
 pub mod Walking

@@ -1,16 +1,15 @@
 -- The number with which the slice loop is refused, turn by turn.
-use Prim.Native.Nat.{ℕ, zero, suc, _+_, _-_, _*_, _≤_, _<_, min}
+use Prim.Native.Nat.{ℕ, zero, suc, _+_, _-_, _≤_, _<_, min}
 use mathlib.Core.Path.{_≡_, refl, sym, ap, _∙_}
 use mathlib.Core.List.{List, [], _∷_}
 use mathlib.Core.Bool.{Bool}
-use native.Mathlib.Nat.{mul-le-mul-left}
 use native.Mathlib.Omega.{arith}
 use lib.Dec.{lit<}
 use lib.ListN.{length, take, drop}
 use borrow.Author.Tests.{lt-ltb, le-ltb}
 use Rattle.partition.specs.Checks.{fine, firstBad, numberOf, number-refused, Numbered, zero-fine}
 use Rattle.partition.specs.Entry.{Entry, Position, asking, firstPosition, sizeChecks, inheritedChecks, splitChecks, moveChecks, entryChecks}
-use Rattle.partition.specs.Grid.{Grid, columns, rows, maxTileColumns, maxTiles}
+use Rattle.partition.specs.Grid.{Grid, columns, rows}
 use Rattle.partition.specs.Groups.{Group}
 use Rattle.partition.specs.Walk.{Walked, refused, placed, after, rowHeightOf, checksAt, onward, entryGroup, walk}
 use Rattle.pps_syntax.specs.SliceTables.{SliceTables, splitCount, slicesFrom}
@@ -19,7 +18,8 @@ use Rattle.pps_lent.specs.Tables.{splitTables}
 use Rattle.pps_tables.specs.declared.RectSliceEntry.{RectSliceEntry}
 use Rattle.question_tests.specs.declared.entry.EntryStep.{EntryStep}
 use Rattle.question_tests.specs.Questions.{entriesIn}
-use Rattle.question_tests.specs.Steps.{position, Stepped}
+use Rattle.slice_loop.specs.Loop.{position}
+use Rattle.question_tests.specs.Steps.{Stepped}
 use Rattle.question_tests.specs.Tables.{entryAt, entryWith}
 use Rattle.question_tests.specs.Walking.{entriesFrom, first-entry, place-behind, StandsAt, stands-first, stands-here, stands-after}
 
@@ -138,6 +138,3 @@ module _ {g : Grid} {d : Bool} {N : ℕ} {t : SliceTables} {n slice tile precedi
 
 pub part-ends : (l c from to : ℕ) → to ≡ min l (from + c) → to ≤ l
 part-ends l c from to e = omega arith
-
-pub tiles-few : (C R : ℕ) → C ≤ maxTileColumns → R ≤ maxTiles → R * C ≤ 4294967295
-tiles-few C R a b = let h : R * C ≤ R * maxTileColumns = mul-le-mul-left R a in omega arith

@@ -1,40 +1,20 @@
 -- The slice loop over the tables: where it stands, what a step gives, and what is left.
 use Prim.Native.Nat.{ℕ, _≤_}
 use mathlib.Core.Path.{_≡_}
-use mathlib.Core.List.{List}
-use mathlib.Core.Bool.{Bool, cond, _&&_}
-use lib.Dec.{leb}
+use mathlib.Core.Bool.{Bool, cond}
 use denote.Ref.{now}
 use Rattle.partition.specs.Checks.{firstBad, numberOf}
 use Rattle.partition.specs.Entry.{Entry, Position, asking, defaultAdvance, entryChecks, nextPosition}
-use Rattle.partition.specs.Grid.{Grid, columns, rows, maxTileColumns, maxTiles}
-use Rattle.partition.specs.Partition.{Layout, declined}
-use Rattle.pps_record.specs.declared.VvcPpsPartition.{VvcPpsPartition}
-use Rattle.pps_syntax.specs.SliceTables.{SliceTables}
+use Rattle.partition.specs.Grid.{Grid, gridOf as gridFrom}
 use Rattle.pps_tables.specs.declared.RectSliceEntry.{RectSliceEntry}
 use Rattle.pps_tables.specs.Parameters.{Numbers}
 use Rattle.slice_loop.specs.declared.TileIdx.{TileIdx}
 use Rattle.slice_loop.specs.Answers.{tileIdx, nextByDelta}
 use Rattle.question_tests.specs.declared.entry.EntryStep.{EntryStep}
-use Rattle.question_tests.specs.Questions.{slicedIn}
-
-abbrev pub position : ℕ → ℕ → ℕ → Position
-position slice tile preceding = record { slice = slice; tile = tile; precedingHeightMinus1 = preceding }
-
-abbrev pub gridFrom : List ℕ → List ℕ → Grid
-gridFrom ws hs = record { columnWidths = ws; rowHeights = hs }
 
 -- the columns and rows lent to a function
 abbrev pub gridBefore : Numbers → Numbers → Grid
 gridBefore columns rows = gridFrom (now (columns .entry)) (now (rows .entry))
-
--- Columns and rows are in their tables.
-unfoldable pub withinLimits : Grid → Bool
-withinLimits g = leb (columns g) maxTileColumns && leb (rows g) maxTiles
-
--- The layout in a grid within its limits.
-unfoldable pub slicedWithin : Grid → VvcPpsPartition → SliceTables → Layout
-slicedWithin g p t = cond (withinLimits g) (slicedIn g p t) (declined 13)
 
 -- The next slice's tile, as far as it is one.
 unfoldable pub movedTo : ℕ → ℕ → Bool → ℕ → RectSliceEntry → TileIdx

@@ -1,48 +1,28 @@
 -- The slice loop over the tables: what is left of the walk at each turn.
-use Prim.Native.Nat.{ℕ, zero, suc, _+_, _-_, _≤_, _<_, min}
+use Prim.Native.Nat.{ℕ, suc, _+_, _-_, _≤_, _<_, min}
 use mathlib.Core.Path.{_≡_, refl, ap, _∙_}
-use mathlib.Core.List.{List, [], _∷_, map}
+use mathlib.Core.List.{List, _∷_, map}
 use mathlib.Core.Bool.{Bool, true, false, not, _&&_, Bool·beq}
 use native.Mathlib.Omega.{arith}
-use lib.Dec.{ltb}
-use lib.ListN.{length, take, drop, length-drop, drop-of-length-le}
-use lib.Seq.{take-nil}
-use borrow.Author.Tests.{ltb-true, ltb-false, leb-false}
+use lib.ListN.{length, take, drop}
+use borrow.Author.Tests.{leb-false}
 use Rattle.partition.specs.Checks.{AllPass}
 use Rattle.partition.specs.Entry.{Entry, Position, firstPosition, nextPosition, defaultAdvance, deltaRefused, nextTile, moveChecks}
 use Rattle.partition.specs.Grid.{Grid, columns}
 use Rattle.partition.specs.Walk.{rowHeightOf, onward}
 use Rattle.pps_syntax.specs.SliceSyntax.{entryOf}
 use Rattle.pps_syntax.specs.SliceTables.{SliceTables, splitCount, sliceAt, slicesFrom}
+use Rattle.pps_lent.specs.Places.{heights-held}
 use Rattle.pps_lent.specs.Tables.{splitTables, same-count}
 use Rattle.pps_tables.specs.declared.RectSliceEntry.{RectSliceEntry}
 use Rattle.pps_tables.specs.Rows.{entryOf as fieldsOf}
 use Rattle.syntax.specs.Elements.{isSet}
 use Rattle.slice_loop.specs.Laws.{held-tile, delta-tile}
-use Rattle.question_tests.specs.Steps.{position, movedTo}
+use Rattle.slice_loop.specs.Loop.{position}
+use Rattle.question_tests.specs.Steps.{movedTo}
 use Rattle.question_tests.specs.Tables.{entryAt, entryWith}
 
 -- ---- the explicit slice heights of an entry
-
--- from a place held within the table
-pub take-held : (c : ℕ) (l : List ℕ) → take (min (length l) c) l ≡ take c l
-take-held c [] = rw (take-nil c, take-nil (min 0 c))
-take-held zero (x ∷ l) = let z : min (suc (length l)) 0 ≡ 0 = omega arith in rw z
-take-held (suc c) (x ∷ l) = let z : min (suc (length l)) (suc c) ≡ suc (min (length l) c) = omega arith in rw z (ap (λ (r : List ℕ). x ∷ r) (take-held c l))
-
-pub heights-held : (l : List ℕ) (c j from to : ℕ) → from ≡ min (length l) j → to ≡ min (length l) (from + c) → take (to - from) (drop from l) ≡ take c (drop j l)
-heights-held l c j from to p q = split (ltb j (length l)) refl
-  where
-    split : (b : Bool) → ltb j (length l) ≡ b → take (to - from) (drop from l) ≡ take c (drop j l)
-    split true e =
-        let h : j < length l = ltb-true j (length l) e in
-        let a : from ≡ j = omega arith in
-        let b : to - from ≡ min (length (drop j l)) c = omega (arith, length-drop j l) in
-        rw (b, a) (take-held c (drop j l))
-    split false e =
-        let h : length l ≤ j = ltb-false j (length l) e in
-        let k : length l ≤ from = omega arith in
-        rw (drop-of-length-le l h, drop-of-length-le l k, take-nil {A = ℕ} c, take-nil {A = ℕ} (to - from))
 
 module _ (t : SliceTables) where
   -- the entries from entry i on, their heights from place j on

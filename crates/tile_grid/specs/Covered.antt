@@ -16,8 +16,8 @@ use Rattle.pps_record.specs.declared.VvcPps.{VvcPps}
 use Rattle.pps_syntax.specs.BlockRefusal.{declinedWith}
 use Rattle.pps_syntax.specs.FromRecord.{Lent}
 use Rattle.question_tests.specs.Questions.{layoutAsked}
-use Rattle.slice_plan.specs.declared.PlacedIn.{PlacedIn}
-use Rattle.slice_plan.specs.Plans.{placedOf, placedIn}
+use Rattle.tile_grid.specs.declared.placed.PlacedIn.{PlacedIn}
+use Rattle.tile_grid.specs.Plans.{placedOf, placedIn}
 use Rattle.tile_grid.specs.GroupsHeld.{hold-front, right-held}
 use Rattle.tile_grid.specs.TileGroups.{groupsFrom, Countable}
 use Rattle.tile_sizes.specs.Padded.{tableOf, table-length}

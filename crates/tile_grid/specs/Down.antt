@@ -7,16 +7,17 @@ use native.Mathlib.Omega.{arith}
 use lib.Arith.{digits-lt, digits-div, digits-mod}
 use lib.ListN.{length, getD}
 use Rattle.partition.specs.Cover.{Cover}
+use Rattle.partition.specs.Grid.{maxTileColumns, maxTiles, maxSlices}
 use Rattle.partition.specs.Groups.{Group, groupsAt}
 use Rattle.tile_grid.specs.Edges.{topRow, pastRow, marked, AllZero, edgesAt, edgesAbove, marked-at, above-none, above-next, above-most, groups-between}
 use Rattle.tile_grid.specs.Seen.{RightSeen, withTile, seen-tile, seen-column}
 
 -- The two tables of column x, down to the last of 990 rows.
 pub record EdgeTables (ps : List Group) (x : ℕ) (starts ends : List ℕ) : Type 0 where
-  pub begun : (y : ℕ) → y < 990 → getD starts y 0 ≡ edgesAt topRow ps x y
-  pub ended : (y : ℕ) → y < 990 → getD ends y 0 ≡ edgesAt pastRow ps x y
+  pub begun : (y : ℕ) → y < maxTiles → getD starts y 0 ≡ edgesAt topRow ps x y
+  pub ended : (y : ℕ) → y < maxTiles → getD ends y 0 ≡ edgesAt pastRow ps x y
 
-pub tables-made : (ps : List Group) (x : ℕ) (starts₀ ends₀ starts ends : List ℕ) → AllZero starts₀ → AllZero ends₀ → length starts₀ ≡ 990 → length ends₀ ≡ 990
+pub tables-made : (ps : List Group) (x : ℕ) (starts₀ ends₀ starts ends : List ℕ) → AllZero starts₀ → AllZero ends₀ → length starts₀ ≡ maxTiles → length ends₀ ≡ maxTiles
     → (starts ≡ marked topRow x ps starts₀) × (ends ≡ marked pastRow x ps ends₀) → EdgeTables ps x starts ends
 tables-made ps x s₀ e₀ s e zs ze ls le m =
     record {
@@ -24,7 +25,7 @@ tables-made ps x s₀ e₀ s e zs ze ls le m =
       ended = λ y h. rw (m .1) (marked-at pastRow x ps e₀ y (rw le h) ∙ ap (λ (n : ℕ). n + edgesAt pastRow ps x y) (ze y) ∙ zero-add (edgesAt pastRow ps x y));
     }
 
-pub row-inside : (columns rows x y : ℕ) → x < columns → columns * rows ≤ 990 → y < rows → y < 990
+pub row-inside : (columns rows x y : ℕ) → x < columns → columns * rows ≤ maxTiles → y < rows → y < maxTiles
 row-inside columns rows x y wide small h = let m : 1 * rows ≤ columns * rows = mul-le-mul-right rows (omega arith) in omega (arith, one-mul rows)
 
 module _ (columns rows : ℕ) (ps : List Group) (x : ℕ) where
@@ -44,9 +45,9 @@ module _ (columns rows : ℕ) (ps : List Group) (x : ℕ) where
         right = r;
       }
 
-  module _ (wide : x < columns) (small : columns * rows ≤ 990) where
+  module _ (wide : x < columns) (small : columns * rows ≤ maxTiles) where
     module _ (starts ends : List ℕ) (t : EdgeTables ps x starts ends) (y tile count : ℕ) (c : Cover) (d : Down y tile count c) (l : y < rows) where
-      inner : y < 990
+      inner : y < maxTiles
       inner = row-inside columns rows x y wide small l
 
       counts : count + getD starts y 0 ≡ groupsAt ps x y + getD ends y 0
@@ -61,7 +62,7 @@ module _ (columns rows : ℕ) (ps : List Group) (x : ℕ) where
             groups-between ps x y,
           )
 
-      pub down-fits : length ps ≤ 1000 → count + getD starts y 0 < 4294967296
+      pub down-fits : length ps ≤ maxSlices → count + getD starts y 0 < 4294967296
       down-fits h = omega (arith, t .begun y inner, d .counted, above-next topRow ps x y, above-most topRow ps x (suc y))
 
       pub down-within : getD ends y 0 ≤ count + getD starts y 0
@@ -70,7 +71,7 @@ module _ (columns rows : ℕ) (ps : List Group) (x : ℕ) where
       tile-inside : tile < columns * rows
       tile-inside = rw (d .numbered, mul-comm columns rows) (digits-lt l wide)
 
-      pub down-tile : columns ≤ 30 → tile + columns < 4294967296
+      pub down-tile : columns ≤ maxTileColumns → tile + columns < 4294967296
       down-tile h = omega (arith, tile-inside)
 
       pub down-goes-on : (n : ℕ) (c′ : Cover) → n ≡ count + getD starts y 0 - getD ends y 0 → c′ ≡ withTile c tile n → Down (y + 1) (tile + columns) n c′

@@ -7,16 +7,16 @@ use native.Mathlib.Nat.{div-le-self, mul-le-mul-right, div-mul-le-self, le-trans
 use native.Mathlib.Omega.{arith}
 use lib.Dec.{eqb, lit<}
 use lib.ListN.{length, take}
-use lib.Seq.{take-append-seam, length-take-le}
-use borrow.Author.Tests.{eqb-true, eqb-false, eq-eqb, ne-eqb, le-leb}
+use lib.Seq.{take-append-seam}
+use borrow.Author.Tests.{eqb-true, eqb-false, eq-eqb, ne-eqb}
 use Rattle.partition.specs.Accepted.{GridFits, grid-fits}
 use Rattle.partition.specs.Checks.{Check, Outcome, fine, refusedWith, firstBad, numberOf, passes, number-refused, Numbered, zero-fine}
 use Rattle.partition.specs.Entry.{asking}
-use Rattle.partition.specs.Grid.{Grid, tiles, columns, rows}
+use Rattle.partition.specs.Grid.{Grid, gridOf as gridFrom, tiles, columns, rows, maxTileColumns, maxTiles, maxSlicesMinus1}
 use Rattle.partition.specs.Groups.{Group}
 use Rattle.partition.specs.Partition.{inCtbs, tileGrid, explicitChecks, axisChecks, gridChecks, gridOf, gridChecksOf, deltaFlagChecks, partitionChecks, Layout, declined, unsliced, sliced, unless, layout}
 use Rattle.partition.specs.Walk.{placed}
-use Rattle.partition.specs.Sizes.{sum, axisSizes, Fit, pos-sizes, sum-sizes}
+use Rattle.partition.specs.Sizes.{axisSizes, Fit, pos-sizes, sum-sizes}
 use Rattle.pps_record.specs.declared.VvcPps.{VvcPps}
 use Rattle.pps_record.specs.declared.VvcPpsPartition.{VvcPpsPartition}
 use Rattle.pps_syntax.specs.BlockRefusal.{declinedWith, ctbs-most}
@@ -27,11 +27,10 @@ use Rattle.pps_syntax.specs.SliceSyntax.{entryOf}
 use Rattle.pps_syntax.specs.SliceTables.{SliceTables, slicesFrom}
 use Rattle.question_tests.specs.Questions.{recordChecks, noTiles, pictureLayout, layoutAsked, slicingChecks, entriesIn, slicedIn}
 use Rattle.question_tests.specs.Sliced.{Slicing, without-slices, with-slices, slicing-accepted, walked, declined-number, first-positive}
-use Rattle.question_tests.specs.Steps.{gridFrom, withinLimits, slicedWithin}
-use Rattle.slice_plan.specs.declared.PlacedIn.{PlacedIn}
-use Rattle.slice_plan.specs.Plans.{slicedProper, placedIn}
-use Rattle.slice_plan.specs.PlanLaws.{Proper, grid-proper, proper-is, none-unsliced}
-use Rattle.slice_plan.specs.Starts.{properSizes, all-positive}
+use Rattle.tile_grid.specs.declared.placed.PlacedIn.{PlacedIn}
+use Rattle.tile_grid.specs.Plans.{Proper, placedIn}
+use Rattle.tile_grid.specs.PlanLaws.{none-unsliced}
+use Rattle.tile_grid.specs.Starts.{ProperSizes}
 use Rattle.tile_sizes.specs.Padded.{tableOf}
 use Rattle.grid_sizes.specs.Fronts.{gridIn}
 use Rattle.grid_sizes.specs.declared.SizesAnswer.{SizesAnswer}
@@ -157,19 +156,19 @@ module _ (r : VvcPps) (t : Lent) where
     unfolding gridChecksOf partitionOf
     fits = grid-fits (partitionOf W H (blockFrom p t)) (passes checks ok)
 
-    pub few-columns : columns grid ≤ 30
+    pub few-columns : columns grid ≤ maxTileColumns
     unfolding gridOf partitionOf
     few-columns = fits .few-columns
 
-    low-rows : rows grid ≤ 990 / columns grid
+    low-rows : rows grid ≤ maxTiles / columns grid
     unfolding gridOf partitionOf
     low-rows = fits .few-rows
 
-    pub few-rows : rows grid ≤ 990
-    few-rows = omega (arith, low-rows, div-le-self 990 (columns grid))
+    few-rows : rows grid ≤ maxTiles
+    few-rows = omega (arith, low-rows, div-le-self maxTiles (columns grid))
 
-    pub few-tiles : tiles grid ≤ 990
-    few-tiles = le-trans (mul-le-mul-right (columns grid) low-rows) (div-mul-le-self 990 (columns grid))
+    pub few-tiles : tiles grid ≤ maxTiles
+    few-tiles = le-trans (mul-le-mul-right (columns grid) low-rows) (div-mul-le-self maxTiles (columns grid))
 
     pub a-column : 0 < columns grid
     unfolding gridOf partitionOf
@@ -180,26 +179,22 @@ module _ (r : VvcPps) (t : Lent) where
     some-tile = mul-pos (fits .a-row) (fits .a-column)
 
     -- sizes that fit an axis of 32 bits
-    axis-proper : (es : List ℕ) (samples : ℕ) → samples ≤ 4294967295 → Fit es (inCtbs samples size) → length (axisSizes es (inCtbs samples size)) ≤ 990
-        → properSizes (axisSizes es (inCtbs samples size)) ≡ true
-    unfolding properSizes
+    axis-proper : (es : List ℕ) (samples : ℕ) → samples ≤ 4294967295 → Fit es (inCtbs samples size) → length (axisSizes es (inCtbs samples size)) ≤ maxTiles
+        → ProperSizes (axisSizes es (inCtbs samples size))
     axis-proper es samples l f n =
-        rw (
-          le-leb (length (axisSizes es (inCtbs samples size))) 990 n,
-          all-positive (axisSizes es (inCtbs samples size)) (pos-sizes es (inCtbs samples size)),
-          le-leb (sum (axisSizes es (inCtbs samples size))) 4294967295 (omega (arith, sum-sizes es (inCtbs samples size) f, ctbs-most samples size)),
-        )
+        record {
+          few = n;
+          some = pos-sizes es (inCtbs samples size);
+          fits = omega (arith, sum-sizes es (inCtbs samples size) f, ctbs-most samples size);
+        }
 
-    pub proper : W ≤ 4294967295 → H ≤ 4294967295 → Proper grid
+    proper : W ≤ 4294967295 → H ≤ 4294967295 → Proper grid
     unfolding gridOf partitionOf tileGrid
     proper w h =
         record {
+          some-tile = some-tile;
           columnSizes = axis-proper cs W w (fits .fit-columns) (omega (arith, few-columns));
           rowSizes = axis-proper rs H h (fits .fit-rows) few-rows;
-          few-columns = few-columns;
-          few-rows = few-rows;
-          some-tile = some-tile;
-          few-tiles = few-tiles;
         }
 
   -- ---- what the grid's answer says of the layout
@@ -218,7 +213,7 @@ module _ (r : VvcPps) (t : Lent) where
     stopped : (n : ℕ) → (n ≡ 0 → ⊥) → layoutAsked r t ≡ declined n → Asked
     absent : layoutAsked r t ≡ unsliced noTiles → Asked
     without : firstBad checks ≡ fine → layoutAsked r t ≡ unsliced grid → Asked
-    with-groups : firstBad checks ≡ fine → p .«pps_num_slices_in_pic_minus1» ≤ 999 → (ps : List Group) → walked grid p (t .slices) ≡ placed ps → layoutAsked r t ≡ sliced grid ps → Asked
+    with-groups : firstBad checks ≡ fine → p .«pps_num_slices_in_pic_minus1» ≤ maxSlicesMinus1 → (ps : List Group) → walked grid p (t .slices) ≡ placed ps → layoutAsked r t ≡ sliced grid ps → Asked
 
   in-the-grid : firstBad checks ≡ fine → layoutAsked r t ≡ slicedIn grid p (t .slices) → Asked
   in-the-grid ok e = go (eqb (declinedWith (slicedIn grid p (t .slices))) 0) refl
@@ -301,12 +296,8 @@ module _ (r : VvcPps) (t : Lent) where
         unfolding unless sizesOf
         made = e ∙ ap sizesOf grid-there ∙ rw grid-fine
 
-        pub grid-limits : (a .sizes .«num_tile_columns» ≤ 30) × (a .sizes .«num_tile_rows» ≤ 990)
-        unfolding gridOfSizes
-        grid-limits = rw made (few-columns grid-fine, few-rows grid-fine)
-
         -- the used places of the grid's tables
-        pub grid-back : gridIn (a .sizes) ≡ grid
+        grid-back : gridIn (a .sizes) ≡ grid
         unfolding gridOfSizes tableOf
         grid-back = rw made (both (take-append-seam (grid .columnWidths) _) (take-append-seam (grid .rowHeights) _))
           where
@@ -315,13 +306,9 @@ module _ (r : VvcPps) (t : Lent) where
 
         -- ---- the slices in it
 
-        module _ (n : ℕ) (s : n ≡ declinedWith (slicedWithin (gridIn (a .sizes)) p (t .slices))) where
-          within : slicedWithin grid p (t .slices) ≡ slicedIn grid p (t .slices)
-          unfolding slicedWithin withinLimits
-          within = rw (le-leb (columns grid) 30 (few-columns grid-fine), le-leb (rows grid) 990 (few-rows grid-fine))
-
+        module _ (n : ℕ) (s : n ≡ declinedWith (slicedIn (gridIn (a .sizes)) p (t .slices))) where
           slices-number : n ≡ declinedWith (slicedIn grid p (t .slices))
-          slices-number = s ∙ ap (λ (x : Grid). declinedWith (slicedWithin x p (t .slices))) grid-back ∙ ap declinedWith within
+          slices-number = s ∙ ap (λ (x : Grid). declinedWith (slicedIn x p (t .slices))) grid-back
 
           pub slices-declined : (n ≡ 0 → ⊥) → refusedSizes n ≡ sizesOf (layoutAsked r t)
           slices-declined x = sym (answer-declined n) ∙ ap sizesOf (sym (asked-there ∙ declined-number (slicedIn grid p (t .slices)) n slices-number x))
@@ -333,20 +320,14 @@ module _ (r : VvcPps) (t : Lent) where
               go (without-slices c i) = made ∙ sym (answer-unsliced grid) ∙ ap sizesOf (sym (asked-there ∙ i))
               go (with-slices c f ps w i) = made ∙ sym (answer-sliced grid ps) ∙ ap sizesOf (sym (asked-there ∙ i))
 
-        pub slices-placed : W ≤ 4294967295 → H ≤ 4294967295 → (x : PlacedIn)
-            → x ≡ placedIn (slicedProper (gridIn (a .sizes)) p (t .slices))
-            → x ≡ placedIn (layoutAsked r t)
-        slices-placed w h x i =
-            i ∙ ap (λ (y : Grid). placedIn (slicedProper y p (t .slices))) grid-back ∙ ap placedIn (proper-is grid p (t .slices) (grid-proper grid (proper grid-fine w h)) ∙ sym asked-there)
+        pub placed-ready : W ≤ 4294967295 → H ≤ 4294967295 → Proper (gridIn (a .sizes))
+        placed-ready w h = rw grid-back (proper grid-fine w h)
+
+        pub slices-placed : (x : PlacedIn) → x ≡ placedIn (slicedIn (gridIn (a .sizes)) p (t .slices)) → x ≡ placedIn (layoutAsked r t)
+        slices-placed x i = i ∙ ap (λ (y : Grid). placedIn (slicedIn y p (t .slices))) grid-back ∙ ap placedIn (sym asked-there)
 
       pub none-absent : p .present ≡ 0 → placedIn (declined 0) ≡ placedIn (layoutAsked r t)
       none-absent q = none-unsliced noTiles ∙ ap placedIn (sym (asked-absent q))
 
     pub none-declined : (a .refused ≡ 0 → ⊥) → placedIn (declined (a .refused)) ≡ placedIn (layoutAsked r t)
     none-declined z = ap placedIn (sym (asked-declined z))
-
-pub part-length : (a : ℕ) (l : List ℕ) → a ≤ length l → a ≡ length (take a l)
-part-length a l h = sym (length-take-le a l h)
-
-pub within-length : (a n : ℕ) (l : List ℕ) → length l ≡ n → a ≤ n → a ≤ length l
-within-length a n l e h = omega arith

@@ -7,7 +7,12 @@ pub mod GridQuestion
 pub mod GroupsHeld
 pub mod InGrid
 pub mod Marking
+pub mod Placing
 pub mod PlanDemand
+pub mod PlanLaws
 pub mod PlanQuestion
+pub mod Plans
 pub mod Seen
+pub mod Stacking
+pub mod Starts
 pub mod TileGroups

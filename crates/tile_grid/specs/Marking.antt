@@ -9,6 +9,7 @@ use lib.Dec.{eqb, ltb}
 use lib.ListN.{length, getD, set}
 use lib.Seq.{getD-set-same, getD-set-other, set-out}
 use borrow.Author.Tests.{ltb-true, ltb-false, eqb-true, eqb-false}
+use Rattle.partition.specs.Grid.{maxSlices}
 use Rattle.partition.specs.Groups.{Group}
 use Rattle.partition.specs.Sums.{among}
 use Rattle.tile_grid.specs.TileGroups.{groupOf, groupsFrom, groups-none, groups-more}
@@ -46,7 +47,7 @@ module _ (edge : Group → ℕ) (x : ℕ) where
         same = added-length t (edge p) (among (p .tileX) (p .width) x) ∙ m .same;
       }
 
-  pub marking-fits : (all rest : List Group) (t₀ t : List ℕ) (k row n : ℕ) → Marking edge x all rest t₀ t k → k ≤ 1000 → n ≤ 1 → getD t row 0 + n < 4294967296
+  pub marking-fits : (all rest : List Group) (t₀ t : List ℕ) (k row n : ℕ) → Marking edge x all rest t₀ t k → k ≤ maxSlices → n ≤ 1 → getD t row 0 + n < 4294967296
   marking-fits all rest t₀ t k row n m h l = omega (arith, m .most row)
 
   marking-ends : (all : List Group) (t₀ t : List ℕ) (k : ℕ) → Marking edge x all [] t₀ t k → t ≡ marked edge x all t₀

@@ -1,4 +1,5 @@
-// How often the tiles of a grid are covered by groups of tiles: the counting behind the cover check (docs/BEHAVIOUR.md).
+// How often the tiles of a grid are covered by groups of tiles: the counting behind the cover check
+// (docs/BEHAVIOUR.md).
 ghost use mathlib.Core.Path.{_≡_};
 ghost use Prim.Native.Nat.{_+_, _*_, _/_, _%_, _≤_, _<_};
 ghost use lib.ListN.{getD};
@@ -46,8 +47,13 @@ fn count_edges(
     heights: &[u32],
     groups: usize,
 )
-    requires { ⌜ AllZero (now starts) × AllZero (now ends) × Listed (now «tile_x») (now «tile_y») (now widths) (now heights) groups ⌝ }
-    ensures { λ _. ⌜ (now (starts .exit) ≡ marked topRow x (groupsFrom (now («tile_x» .entry)) (now («tile_y» .entry)) (now (widths .entry)) (now (heights .entry)) 0 groups) (now (starts .entry))) × (now (ends .exit) ≡ marked pastRow x (groupsFrom (now («tile_x» .entry)) (now («tile_y» .entry)) (now (widths .entry)) (now (heights .entry)) 0 groups) (now (ends .entry))) ⌝ }
+    requires { ⌜ AllZero (now starts) × AllZero (now ends)
+        × Listed (now «tile_x») (now «tile_y») (now widths) (now heights) groups ⌝ }
+    ensures { λ _.
+        let ps = groupsFrom (now («tile_x» .entry)) (now («tile_y» .entry)) (now (widths .entry))
+        (now (heights .entry)) 0 groups in
+        ⌜ (now (starts .exit) ≡ marked topRow x ps (now (starts .entry)))
+        × (now (ends .exit) ≡ marked pastRow x ps (now (ends .entry))) ⌝ }
 {
     let mut k = 0;
     while k < groups {
@@ -99,8 +105,14 @@ fn with_column(
     heights: &[u32],
     groups: usize,
 ) -> CoverAnswer
-    requires { ⌜ (x < columns) × (columns * rows ≤ maxTiles) × (columns ≤ maxTileColumns) × Listed (now «tile_x») (now «tile_y») (now widths) (now heights) groups × RightSeen columns rows (groupsAt (groupsFrom (now «tile_x») (now «tile_y») (now widths) (now heights) 0 groups)) x 0 (coverNamed before) ⌝ }
-    ensures { λ r. ⌜ RightSeen columns rows (groupsAt (groupsFrom (now («tile_x» .entry)) (now («tile_y» .entry)) (now (widths .entry)) (now (heights .entry)) 0 groups)) (x + 1) 0 (coverNamed r) ⌝ }
+    requires { let ps = groupsFrom (now «tile_x») (now «tile_y») (now widths) (now heights) 0 groups in
+        ⌜ (x < columns) × (columns * rows ≤ maxTiles) × (columns ≤ maxTileColumns)
+        × Listed (now «tile_x») (now «tile_y») (now widths) (now heights) groups
+        × RightSeen columns rows (groupsAt ps) x 0 (coverNamed before) ⌝ }
+    ensures { λ r.
+        let ps = groupsFrom (now («tile_x» .entry)) (now («tile_y» .entry)) (now (widths .entry))
+        (now (heights .entry)) 0 groups in
+        ⌜ RightSeen columns rows (groupsAt ps) (x + 1) 0 (coverNamed r) ⌝ }
 {
     let mut starts = [0u32; MAX_TILES as usize];
     let mut ends = [0u32; MAX_TILES as usize];
@@ -127,8 +139,8 @@ fn with_column(
     cover
 }
 
-// Group k is the block of widths[k] by heights[k] tiles from column tile_x[k] and row tile_y[k] on; what lies outside the
-// grid counts for nothing. The tile that the answer names is any that is as it says.
+// Group k is the block of widths[k] by heights[k] tiles from column tile_x[k] and row tile_y[k] on; what lies outside
+// the grid counts for nothing. The tile that the answer names is any that is as it says.
 pub fn cover_of(
     columns: u32,
     rows: u32,
@@ -140,7 +152,8 @@ pub fn cover_of(
 ) -> CoverAnswer
     requires { ⌜ Countable columns rows (now «tile_x») (now «tile_y») (now widths) (now heights) groups ⌝ }
     ensures { λ r.
-        let ps = groupsFrom (now («tile_x» .entry)) (now («tile_y» .entry)) (now (widths .entry)) (now (heights .entry)) 0 groups in
+        let ps = groupsFrom (now («tile_x» .entry)) (now («tile_y» .entry)) (now (widths .entry))
+        (now (heights .entry)) 0 groups in
         ⌜ RightTiles (columns * rows) (λ t. groupsAt ps (t % columns) (t / columns)) (coverNamed r) ⌝ }
 {
     let mut cover = CoverAnswer::Whole;

@@ -1,40 +1,37 @@
-// The tile grid of a partitioned picture (H.266 6.5.1, 7.4.3.5), and the questions on grid, plan and cover over a record
-// (docs/BEHAVIOUR.md).
+// The tile grid of a partitioned picture (H.266 6.5.1, 7.4.3.5), and the questions on grid, plan and cover over a
+// record (docs/BEHAVIOUR.md).
 ghost use mathlib.Core.Path.{_≡_};
-ghost use Prim.Native.Nat.{_≤_};
-ghost use Rattle.grid_sizes.specs.Fronts.{gridIn};
-ghost use Rattle.partition.specs.Grid.{maxTileColumns, maxTiles};
 ghost use Rattle.partition.specs.Partition.{Layout};
-ghost use Rattle.pps_syntax.specs.BlockRefusal.{declinedWith};
-ghost use Rattle.pps_tables.specs.Parameters.{before, slicesBefore};
+ghost use Rattle.pps_tables.specs.Parameters.{before};
 ghost use Rattle.question_tests.specs.Questions.{layoutAsked};
-ghost use Rattle.question_tests.specs.Steps.{slicedWithin};
-ghost use Rattle.slice_plan.specs.Plans.{placedIn, slicedProper};
 ghost use Rattle.tile_grid.specs.Answers.{gridHeld, gridAnswer};
 ghost use Rattle.tile_grid.specs.Covered.{Coverable};
 ghost use Rattle.tile_grid.specs.GridQuestion.{sizesOf, ofRecord};
 ghost use Rattle.tile_grid.specs.InGrid.{gridAsked};
 ghost use Rattle.tile_grid.specs.PlanQuestion.{planAnswerOf, RightAnswer, slicePlan, SliceCover};
+ghost use Rattle.tile_grid.specs.Plans.{placedIn};
 use cover::cover_of;
-use grid_sizes::GridSizes;
 use grid_sizes::SizesAnswer;
 use grid_sizes::grid_sizes;
 use grid_sizes::refused_sizes;
 use grid_sizes::sizes_in_tables;
+use placed::PlacedIn;
+use placed::none_placed;
+use placed::placed_in;
 use pps_record::VvcPps;
-use pps_record::VvcPpsPartition;
 use pps_tables::ENTRY_LEN;
 use question_tests::record::record_refusal;
 use question_tests::slicing::slicing_refusal;
 use slice_loop::TileIdx;
-use slice_plan::PlacedIn;
-use slice_plan::none_placed;
-use slice_plan::placed_in;
 use tile_sizes::MAX_SLICES;
 use tile_sizes::MAX_TILE_COLUMNS;
 use tile_sizes::MAX_TILES;
 
 mod cover;
+mod place;
+mod placed;
+mod stack;
+mod starts;
 
 // The tile grid, in CTBs; places not in use are 0.
 pub struct TileGrid {
@@ -51,7 +48,8 @@ pub struct GridAnswer {
     pub refused: u8,
 }
 
-// A refusal, or 0 and the plan: each slice's left, top, width and height in CTBs, by slice index; places not in use are 0.
+// A refusal, or 0 and the plan: each slice's left, top, width and height in CTBs, by slice index; places not in use
+// are 0.
 pub struct PlanAnswer {
     pub refused: u8,
     pub num_slices: u32,
@@ -61,7 +59,8 @@ pub struct PlanAnswer {
     pub height: [u32; MAX_SLICES as usize],
 }
 
-// A refusal, or what the slices cover: no plan, every block once, a tile in no slice, or a tile whose blocks lie in several.
+// A refusal, or what the slices cover: no plan, every block once, a tile in no slice, or a tile whose blocks lie in
+// several.
 pub enum CoverAnswer {
     Refused(u8),
     NoPlan,
@@ -87,52 +86,6 @@ fn held(a: SizesAnswer) -> GridAnswer
         refused: a.refused,
         grid,
     }
-}
-
-// The number with which the slices of a partition are refused in a grid, or 0.
-fn slices_refused(
-    sizes: GridSizes,
-    p: VvcPpsPartition,
-    entries: &[[u32; ENTRY_LEN]],
-    split_heights: &[u32],
-) -> u8
-    requires { ⌜ (sizes .«num_tile_columns» ≤ maxTileColumns) × (sizes .«num_tile_rows» ≤ maxTiles) ⌝ }
-    ensures { λ r. ⌜ r ≡ declinedWith (slicedWithin (gridIn sizes) p (slicesBefore entries «split_heights»)) ⌝ }
-{
-    let columns = sizes.num_tile_columns as usize;
-    let rows = sizes.num_tile_rows as usize;
-    let column_widths = sizes.column_widths;
-    let row_heights = sizes.row_heights;
-    slicing_refusal(
-        &column_widths[..columns],
-        &row_heights[..rows],
-        p,
-        entries,
-        split_heights,
-    )
-}
-
-// What the slices of a partition place in a grid, or their refusal.
-fn slices_placed(
-    sizes: GridSizes,
-    p: VvcPpsPartition,
-    entries: &[[u32; ENTRY_LEN]],
-    split_heights: &[u32],
-) -> PlacedIn
-    requires { ⌜ (sizes .«num_tile_columns» ≤ maxTileColumns) × (sizes .«num_tile_rows» ≤ maxTiles) ⌝ }
-    ensures { λ r. ⌜ r ≡ placedIn (slicedProper (gridIn sizes) p (slicesBefore entries «split_heights»)) ⌝ }
-{
-    let columns = sizes.num_tile_columns as usize;
-    let rows = sizes.num_tile_rows as usize;
-    let column_widths = sizes.column_widths;
-    let row_heights = sizes.row_heights;
-    placed_in(
-        &column_widths[..columns],
-        &row_heights[..rows],
-        p,
-        entries,
-        split_heights,
-    )
 }
 
 // The tests before the slices', and the grid; of no columns and no rows where the picture is unpartitioned.
@@ -203,7 +156,7 @@ fn laid_out(
         return none_placed(0);
     }
     let sizes = answer.sizes;
-    slices_placed(sizes, p, entries, split_heights)
+    placed_in(sizes, p, entries, split_heights)
 }
 
 // The sizes of the grid of a record; or its refusal, also of its slices.
@@ -235,7 +188,7 @@ fn grid_asked(
         return answer;
     }
     let sizes = answer.sizes;
-    let slices = slices_refused(sizes, p, entries, split_heights);
+    let slices = slicing_refusal(sizes, p, entries, split_heights);
     if slices != 0 {
         return refused_sizes(slices);
     }
@@ -327,7 +280,9 @@ impl TileGrid {
         entries: &[[u32; ENTRY_LEN]],
         split_heights: &[u32],
     ) -> GridAnswer
-        ensures { λ r. ⌜ r ≡ ofRecord pps (before «subpic_ids» «tile_column_widths» «tile_row_heights» entries «split_heights») ⌝ }
+        ensures { λ r.
+            let t = before «subpic_ids» «tile_column_widths» «tile_row_heights» entries «split_heights» in
+            ⌜ r ≡ ofRecord pps t ⌝ }
     {
         held(grid_asked(
             pps,
@@ -339,7 +294,8 @@ impl TileGrid {
         ))
     }
 
-    // The plan question: each slice's left, top, width and height in CTBs; empty where no slices are coded; or a refusal.
+    // The plan question: each slice's left, top, width and height in CTBs; empty where no slices are coded; or a
+    // refusal.
     pub fn slice_plan(
         pps: VvcPps,
         subpic_ids: &[u32],
@@ -348,7 +304,9 @@ impl TileGrid {
         entries: &[[u32; ENTRY_LEN]],
         split_heights: &[u32],
     ) -> PlanAnswer
-        ensures { λ r. ⌜ r ≡ slicePlan pps (before «subpic_ids» «tile_column_widths» «tile_row_heights» entries «split_heights») ⌝ }
+        ensures { λ r.
+            let t = before «subpic_ids» «tile_column_widths» «tile_row_heights» entries «split_heights» in
+            ⌜ r ≡ slicePlan pps t ⌝ }
     {
         plan_placed(laid_out(
             pps,
@@ -360,8 +318,8 @@ impl TileGrid {
         ))
     }
 
-    // The cover question: a refusal, no plan where no slices are coded, or what the slices cover. The tile that a gap or
-    // a double names is any that is as said.
+    // The cover question: a refusal, no plan where no slices are coded, or what the slices cover. The tile that a gap
+    // or a double names is any that is as said.
     pub fn slice_cover(
         pps: VvcPps,
         subpic_ids: &[u32],
@@ -370,7 +328,9 @@ impl TileGrid {
         entries: &[[u32; ENTRY_LEN]],
         split_heights: &[u32],
     ) -> CoverAnswer
-        ensures { λ r. ⌜ SliceCover pps (before «subpic_ids» «tile_column_widths» «tile_row_heights» entries «split_heights») r ⌝ }
+        ensures { λ r.
+            let t = before «subpic_ids» «tile_column_widths» «tile_row_heights» entries «split_heights» in
+            ⌜ SliceCover pps t r ⌝ }
     {
         cover_placed(laid_out(
             pps,

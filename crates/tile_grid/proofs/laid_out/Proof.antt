@@ -3,7 +3,7 @@ use native.Mathlib.Omega.{arith}
 use mathlib.Core.Path.{_∙_}
 use Rattle.pps_syntax.specs.FromRecord.{lent}
 use Rattle.pps_syntax.specs.SliceTables.{sliceTables}
-use Rattle.tile_grid.specs.InGrid.{none-declined, none-absent, grid-limits, slices-placed}
+use Rattle.tile_grid.specs.InGrid.{none-declined, none-absent, placed-ready, slices-placed}
 use borrow.Author.Needs.{needs}
 use Rattle.tile_grid.proofs.laid_out.Statement.{statement}
 use Rattle.tile_grid.proofs.laid_out.Tie as tie
@@ -20,21 +20,21 @@ returns-2 c =
     let t = lent (a .subpic-ids .now) (a .tile-column-widths .now) (a .tile-row-heights .now) (sliceTables (a .entries .now) (a .split-heights .now)) in
     (c .none-placed2 .ensures) ∙ none-absent (a .pps) t _ (c .before .before .before .before .before .before .sizes-tested .ensures) (c .before .before .before .if1 .left) (c .before .if2 .taken)
 
-slices-placed-requires : tie.Need-slices-placed-requires
-slices-placed-requires c κs =
+placed-in-requires : tie.Need-placed-in-requires
+placed-in-requires c κs =
     let a = c .before .before .before .before .before .before .before .before .before .before .before .args in
     let t = lent (a .subpic-ids .now) (a .tile-column-widths .now) (a .tile-row-heights .now) (sliceTables (a .entries .now) (a .split-heights .now)) in
-    grid-limits (a .pps) t _ (c .before .before .before .before .before .before .sizes-tested .ensures) (c .before .before .before .if1 .left) (c .before .if2 .left)
+    let w : a .pps .«pps_pic_width_in_luma_samples» ≤ 4294967295 = (let p = c .before .before .before .before .before .before .before .before .before .before .before .good .0 .1 .1 .1 .1 .1 .0 in omega arith) in
+    let h : a .pps .«pps_pic_height_in_luma_samples» ≤ 4294967295 = (let p = c .before .before .before .before .before .before .before .before .before .before .before .good .0 .1 .1 .1 .1 .1 .1 .0 in omega arith) in
+    placed-ready (a .pps) t _ (c .before .before .before .before .before .before .sizes-tested .ensures) (c .before .before .before .if1 .left) (c .before .if2 .left) w h
 
 returns-3 : tie.Need-returns-3
 returns-3 c =
     let a = c .before .before .before .before .before .before .before .before .before .before .before .before .args in
     let t = lent (a .subpic-ids .now) (a .tile-column-widths .now) (a .tile-row-heights .now) (sliceTables (a .entries .now) (a .split-heights .now)) in
-    let w : a .pps .«pps_pic_width_in_luma_samples» ≤ 4294967295 = (let p = c .before .before .before .before .before .before .before .before .before .before .before .before .good .0 .1 .1 .1 .1 .1 .0 in omega arith) in
-    let h : a .pps .«pps_pic_height_in_luma_samples» ≤ 4294967295 = (let p = c .before .before .before .before .before .before .before .before .before .before .before .before .good .0 .1 .1 .1 .1 .1 .1 .0 in omega arith) in
-    slices-placed (a .pps) t _ (c .before .before .before .before .before .before .before .sizes-tested .ensures) (c .before .before .before .before .if1 .left) (c .before .before .if2 .left) w h _ (c .slices-placed .ensures)
+    slices-placed (a .pps) t _ (c .before .before .before .before .before .before .before .sizes-tested .ensures) (c .before .before .before .before .if1 .left) (c .before .before .if2 .left) _ (c .placed-in .ensures)
 
 pub laid-out-spec : {M : Type 1} → statement M
 laid-out-spec =
     tie.close
-    (tie.spec (λ c κs. search needs) (λ c κs. search needs) returns (λ c κs. search needs) returns-2 slices-placed-requires returns-3)
+    (tie.spec (λ c κs. search needs) (λ c κs. search needs) returns (λ c κs. search needs) returns-2 placed-in-requires returns-3)

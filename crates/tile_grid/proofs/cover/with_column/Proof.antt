@@ -2,6 +2,7 @@ use borrow.Author.Needs.{needs}
 use Prim.Native.Nat.{_-_}
 use native.Mathlib.Omega.{arith}
 use mathlib.Core.Path.{refl}
+use Rattle.partition.specs.Grid.{maxTiles}
 use Rattle.tile_grid.specs.PlanQuestion.{coverNamed}
 use Rattle.tile_grid.specs.TileGroups.{groupsFrom, groups-few}
 use Rattle.tile_grid.specs.Edges.{zeros-zero}
@@ -22,10 +23,10 @@ slice-aggregate-count-edges-2 : tie.Need-slice-aggregate-count-edges-2 Inv-loop 
 slice-aggregate-count-edges-2 c = search needs
 
 count-edges-requires : tie.Need-count-edges-requires Inv-loop μ-loop
-count-edges-requires c κs = (zeros-zero 990, zeros-zero 990, c .before .before .before .before .before .before .pre .3)
+count-edges-requires c κs = (zeros-zero maxTiles, zeros-zero maxTiles, c .before .before .before .before .before .before .pre .3)
 
 loop-holds : tie.Need-loop-holds Inv-loop μ-loop
-loop-holds c = (tables-made _ _ _ _ _ _ (zeros-zero 990) (zeros-zero 990) refl refl (c .before .before .count-edges .ensures), down-begins _ _ _ _ _ (c .before .before .before .before .before .before .before .before .before .pre .4))
+loop-holds c = (tables-made _ _ _ _ _ _ (zeros-zero maxTiles) (zeros-zero maxTiles) refl refl (c .before .before .count-edges .ensures), down-begins _ _ _ _ _ (c .before .before .before .before .before .before .before .before .before .pre .4))
 
 mul-count : tie.Need-mul-count Inv-loop μ-loop
 mul-count c = omega arith

@@ -1,9 +1,0 @@
-use Rattle.slice_plan.specs.PlanLaws.{none-made}
-use Rattle.slice_plan.proofs.none_placed.Statement.{statement}
-use Rattle.slice_plan.proofs.none_placed.Tie as tie
-
-returns : tie.Need-returns
-returns c = none-made _
-
-pub none-placed-spec : {M : Type 1} → statement M
-none-placed-spec = tie.close (tie.spec returns)

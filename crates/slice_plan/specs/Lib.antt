@@ -1,5 +1,0 @@
-pub mod Stacking
-pub mod Starts
-pub mod Plans
-pub mod PlanLaws
-pub mod Placing
