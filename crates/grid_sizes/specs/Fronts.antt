@@ -8,14 +8,14 @@ use lib.Dec.{leb}
 use lib.ListN.{length, take}
 use lib.Seq.{take-append-seam, take-all, take-length, length-take-le}
 use borrow.Author.Tests.{leb-true, leb-false}
-use Rattle.partition.specs.Grid.{Grid, gridOf, columns, rows, maxTileColumns, maxTiles}
+use Rattle.partition.specs.Grid.{Grid, gridWith, columns, rows, maxTileColumns, maxTiles}
 use Rattle.tile_sizes.specs.Limits.{withinLimits, limits-held}
 use Rattle.tile_sizes.specs.Padded.{zeros, tableOf}
 use Rattle.grid_sizes.specs.declared.GridSizes.{GridSizes}
 
 -- the grid that sizes hold: their used places; of at most 30 columns and 990 rows, as many as the tables have
 abbrev pub gridIn : GridSizes → Grid
-gridIn s = gridOf (take (s .«num_tile_columns») (s .«column_widths»)) (take (s .«num_tile_rows») (s .«row_heights»))
+gridIn s = gridWith (take (s .«num_tile_columns») (s .«column_widths»)) (take (s .«num_tile_rows») (s .«row_heights»))
 
 -- the type of the code holds this grid
 pub record GridIs (g : Grid) (sizes : GridSizes) : Type 0 where

@@ -77,8 +77,8 @@ module _ {A B : Type 0} (read : List ℕ → Cursor → Parsed A) (put : A → B
     pub table : t ≡ sets t₀ from (map put (whole .value))
 
 -- one less to be read
-left : (count i : ℕ) → i < count → count - i ≡ suc (count - (i + 1))
-left count i h = omega arith
+pub one-left : (count i : ℕ) → i < count → count - i ≡ suc (count - (i + 1))
+one-left count i h = omega arith
 
 module _ {A B : Type 0} {read : List ℕ → Cursor → Parsed A} {put : A → B} {s : List ℕ} {count from : ℕ} {c₀ : Cursor} {t₀ : List B} where
   pub fill-begins : Filling read put s count from c₀ t₀ 0 c₀ t₀
@@ -95,7 +95,7 @@ module _ {A B : Type 0} {read : List ℕ → Cursor → Parsed A} {put : A → B
       → u ≡ set t (from + i) (put v) → Filling read put s count from c₀ t₀ (i + 1) d u
   fill-more {i} {c} {d} {t} {u} {v} f h e o w =
       let k = count - (i + 1) in
-      let step : listRead read (count - i) s c ≡ parsed (v ∷ listRead read k s d .value) (listRead read k s d .next) = rw (left count i h) (list-more read k s c d v e o) in
+      let step : listRead read (count - i) s c ≡ parsed (v ∷ listRead read k s d .value) (listRead read k s d .next) = rw (one-left count i h) (list-more read k s c d v e o) in
       record {
         within = omega arith;
         long = rw w (length-set t (from + i) (put v) ∙ f .long);
@@ -119,7 +119,7 @@ module _ {A B : Type 0} {read : List ℕ → Cursor → Parsed A} {put : A → B
 
   pub fill-stops : {i : ℕ} {c d : Cursor} {t : List B} {v : A} → Filling read put s count from c₀ t₀ i c t → i < count → parsed v d ≡ read s c → (d .refused ≡ 0 → ⊥)
       → Filled read put s count from c₀ t₀ i d t
-  fill-stops {i} {c} {d} {t} {v} f h e o = closed i c d t f (rw (left count i h) (list-stops read (count - (i + 1)) s c d v e o))
+  fill-stops {i} {c} {d} {t} {v} f h e o = closed i c d t f (rw (one-left count i h) (list-stops read (count - (i + 1)) s c d v e o))
 
   -- x is what a contract calls the whole
   pub filled-as : {n : ℕ} {c : Cursor} {t : List B} {x : Parsed (List A)} → listRead read count s c₀ ≡ x → Filled read put s count from c₀ t₀ n c t

@@ -1,105 +1,65 @@
--- The tests of the grid, as `TileGrid::new` makes them: the first check that fails refuses.
-use Prim.Native.Nat.{ℕ, _/_, _<_}
-use mathlib.Core.Path.{_≡_, refl, sym, ap, _∙_}
-use mathlib.Core.List.{List, [], _∷_, _++_}
-use mathlib.Core.Bool.{Bool, true, false, not, cond}
-use native.Mathlib.Omega.{arith}
-use lib.Dec.{eqb, ltb, lit<}
-use lib.ListN.{length}
-use borrow.Author.Tests.{ne-eqb, eqb-true, eqb-false}
+-- The tests of the grid, over what was counted on its axes, and what it says that they held.
+use Prim.Native.Nat.{ℕ, _/_}
+use mathlib.Core.Path.{_≡_, refl, sym, _∙_}
+use mathlib.Core.Bool.{Bool, true, false, _&&_}
+use lib.Dec.{leb, lit<}
+use borrow.Author.Tests.{leb-true}
 use Rattle.bit_reader.specs.declared.Cursor.{Cursor}
-use Rattle.bit_reader.specs.Reading.{refusal, demanded}
-use Rattle.bit_reader.specs.Laws.{demanded-true, demanded-false, demanded-refused}
-use Rattle.partition.specs.Checks.{Check, refuse, refusedWith, firstBad, numberOf, AllPass, Numbered, not-past}
-use Rattle.partition.specs.Entry.{someAtLeast}
-use Rattle.partition.specs.Grid.{maxTileColumns, maxTiles}
-use Rattle.partition.specs.Partition.{inCtbs, explicitChecks, axisChecks, gridChecks}
-use Rattle.partition.specs.Sizes.{sum, explicitSizes, axisSizes}
-use Rattle.grid_sizes.specs.declared.SizesAnswer.{SizesAnswer}
-use Rattle.grid_sizes.specs.Answers.{gridSizes}
-use Rattle.grid_sizes.specs.Laws.{grid-number}
+use Rattle.bit_reader.specs.Reading.{demanded}
+use Rattle.bit_reader.specs.Laws.{demanded-refused}
+use Rattle.partition.specs.Grid.{columns, rows, maxTileColumns, maxTiles}
+use Rattle.partition.specs.Partition.{inCtbs, tileGrid}
+use Rattle.partition.specs.Sizes.{Fit}
+use Rattle.syntax.specs.Lists.{not-true}
+use Rattle.syntax.specs.Round.{and-true}
+use Rattle.tile_sizes.specs.Limits.{withinLimits, Limited, limits-held}
+use Rattle.pps_fields.specs.declared.lists.AxisRead.{AxisRead}
+use Rattle.pps_fields.specs.Axis.{axisOf}
+use Rattle.pps_slices.specs.SizeReads.{demanded-held}
 use Rattle.pps_partition.specs.TileSizes.{TileSizes}
-use Rattle.pps_partition.specs.Block.{gridTested}
+use Rattle.pps_partition.specs.Block.{gridFrom, gridTested}
 
--- ---- checks as tests of reading
-unfoldable pub checksTested : List Check → Cursor → Cursor
-checksTested [] c = c
-checksTested (k ∷ ks) c = checksTested ks (demanded (not (k .bad)) (k .number) c)
+-- 12 where the explicit sizes of an axis pass it, 13 where the grid is over its limits: columns, then rows
+unfoldable pub axesTested : AxisRead → AxisRead → Cursor
+axesTested columns rows =
+    demanded (leb (rows .sizes) (maxTiles / columns .sizes)) 13
+    (demanded (rows .fits) 12
+    (demanded (leb (columns .sizes) maxTileColumns) 13
+    (demanded (columns .fits) 12 (rows .next))))
 
-checks-stuck : (ks : List Check) (c : Cursor) → (c .refused ≡ 0 → ⊥) → checksTested ks c ≡ c
-unfolding checksTested
-checks-stuck [] c h = refl
-checks-stuck (k ∷ ks) c h = rw (demanded-refused (not (k .bad)) (k .number) c h) (checks-stuck ks c h)
-
-checks-pass : (ks ls : List Check) (c : Cursor) → AllPass ks → checksTested (ks ++ ls) c ≡ checksTested ls c
-unfolding checksTested AllPass
-checks-pass [] ls c a = refl
-checks-pass (k ∷ ks) ls c a = rw (a .0, demanded-true true (k .number) c refl) (checks-pass ks ls c (a .1))
-
--- the number of the first that fails does for all of them
-checks-first : (ks : List Check) (c : Cursor) → Numbered ks → c .refused ≡ 0 → demanded (eqb (numberOf (firstBad ks)) 0) (numberOf (firstBad ks)) c ≡ checksTested ks c
-unfolding checksTested firstBad numberOf Numbered
-checks-first [] c l h = demanded-true (eqb 0 0) 0 c refl
-checks-first (k ∷ ks) c l h = cases (k .bad) (checks-first ks c (l .1) h)
+-- behind the test of the columns, the limits of the grid are that of the rows
+limits-last : (a b : ℕ) (fits : Bool) (c : Cursor) → demanded (withinLimits a b) 13 (demanded fits 12 (demanded (leb a maxTileColumns) 13 c))
+    ≡ demanded (leb b (maxTiles / a)) 13 (demanded fits 12 (demanded (leb a maxTileColumns) 13 c))
+unfolding withinLimits
+limits-last a b fits c = cases (leb a maxTileColumns)
   where
-    cases : (b : Bool) → demanded (eqb (numberOf (firstBad ks)) 0) (numberOf (firstBad ks)) c ≡ checksTested ks c
-        → demanded (eqb (numberOf (cond b (refusedWith (k .number)) (firstBad ks))) 0) (numberOf (cond b (refusedWith (k .number)) (firstBad ks))) c ≡ checksTested ks (demanded (not b) (k .number) c)
-    cases false ih = rw (demanded-true true (k .number) c refl) ih
-    cases true ih =
-        let n = k .number in
-        let e : eqb n 0 ≡ false = ne-eqb n 0 (λ z. omega (arith, l .0)) in
-        let stuck : refusal c n .refused ≡ 0 → ⊥ = λ z. omega (arith, l .0) in
-        demanded-false (eqb n 0) n c e h ∙ sym (rw (demanded-false false n c refl h) (checks-stuck ks (refusal c n) stuck))
+    cases : (t : Bool) → demanded (t && leb b (maxTiles / a)) 13 (demanded fits 12 (demanded t 13 c)) ≡ demanded (leb b (maxTiles / a)) 13 (demanded fits 12 (demanded t 13 c))
+    cases true = refl
+    cases false =
+        let stuck : demanded false 13 c .refused ≡ 0 → ⊥ = λ z. not-true (demanded-held false 13 c (lit< tt) z .0) in
+        let same = demanded-refused fits 12 (demanded false 13 c) stuck in
+        rw same (demanded-refused false 13 (demanded false 13 c) stuck ∙ sym (demanded-refused (leb b (maxTiles / a)) 13 (demanded false 13 c) stuck))
 
--- ---- the grid's
--- what reading the tile sizes has shown
-pub record SizesFine (W H : ℕ) (t : TileSizes) : Type 0 where
-  pub ctu : ltb 2 (t .«pps_log2_ctu_size_minus5») ≡ false
-  pub someWidth : eqb (length (t .«pps_tile_column_width_minus1»)) 0 ≡ false
-  pub someHeight : eqb (length (t .«pps_tile_row_height_minus1»)) 0 ≡ false
-  pub widthsBelow : someAtLeast (inCtbs W (t .«pps_log2_ctu_size_minus5»)) (t .«pps_tile_column_width_minus1») ≡ false
-  pub heightsBelow : someAtLeast (inCtbs H (t .«pps_log2_ctu_size_minus5»)) (t .«pps_tile_row_height_minus1») ≡ false
+pub axes-made : (columns rows : AxisRead) (within : Bool) (c₁ c₂ c₃ next : Cursor) → c₁ ≡ demanded (columns .fits) 12 (rows .next) → c₂ ≡ demanded (leb (columns .sizes) maxTileColumns) 13 c₁
+    → c₃ ≡ demanded (rows .fits) 12 c₂ → within ≡ withinLimits (columns .sizes) (rows .sizes) → next ≡ demanded within 13 c₃ → next ≡ axesTested columns rows
+unfolding axesTested
+axes-made columns rows within c₁ c₂ c₃ next e₁ e₂ e₃ e₄ e₅ = e₅ ∙ rw (e₄, e₃, e₂, e₁) (limits-last (columns .sizes) (rows .sizes) (rows .fits) _)
 
-module _ (W H : ℕ) (t : TileSizes) where
-  abbrev ctu : ℕ
-  ctu = t .«pps_log2_ctu_size_minus5»
+module _ (W H : ℕ) (t : TileSizes) (c : Cursor) where
+  pub axes-tested : (behind : Cursor) (columns rows : AxisRead) → columns ≡ axisOf (t .«pps_tile_column_width_minus1») (inCtbs W (t .«pps_log2_ctu_size_minus5»)) behind
+      → rows ≡ axisOf (t .«pps_tile_row_height_minus1») (inCtbs H (t .«pps_log2_ctu_size_minus5»)) c → axesTested columns rows ≡ gridTested W H t c
+  unfolding axesTested axisOf gridTested
+  axes-tested behind columns rows e f = rw (e, f)
 
-  abbrev ws : List ℕ
-  ws = t .«pps_tile_column_width_minus1»
+  -- what they have shown
+  pub record GridFits : Type 0 where
+    pub limited : Limited (columns (gridFrom W H t)) (rows (gridFrom W H t))
+    pub rowsFit : Fit (t .«pps_tile_row_height_minus1») (inCtbs H (t .«pps_log2_ctu_size_minus5»))
 
-  abbrev hs : List ℕ
-  hs = t .«pps_tile_row_height_minus1»
-
-  grid-checks : (c : Cursor) → SizesFine W H t → checksTested (gridChecks W H ctu ws hs) c ≡ gridTested W H t c
-  unfolding gridChecks explicitChecks axisChecks gridTested AllPass checksTested
-  grid-checks c f =
-      checks-pass
-      (refuse 9 (ltb 2 ctu) ∷ refuse 10 (eqb (length ws) 0) ∷ refuse 10 (eqb (length hs) 0) ∷ refuse 11 (someAtLeast (inCtbs W ctu) ws) ∷ refuse 11 (someAtLeast (inCtbs H ctu) hs) ∷ [])
-      (axisChecks ws (inCtbs W ctu) maxTileColumns ++ axisChecks hs (inCtbs H ctu) (maxTiles / length (axisSizes ws (inCtbs W ctu)))) c
-      (f .ctu, (f .someWidth, (f .someHeight, (f .widthsBelow, (f .heightsBelow, tt)))))
-      ∙ rw (
-        not-past (inCtbs W ctu) (sum (explicitSizes ws)),
-        not-past maxTileColumns (length (axisSizes ws (inCtbs W ctu))),
-        not-past (inCtbs H ctu) (sum (explicitSizes hs)),
-        not-past (maxTiles / length (axisSizes ws (inCtbs W ctu))) (length (axisSizes hs (inCtbs H ctu))),
-      )
-
-  -- the answer's number does for the four tests; it is of no account where reading was refused before
-  pub grid-made : (c d : Cursor) (vs ks : List ℕ) (r : SizesAnswer) → r ≡ gridSizes W H ctu vs ks → (c .refused ≡ 0 → SizesFine W H t × ((vs ≡ ws) × (ks ≡ hs)))
-      → d ≡ demanded (eqb (r .refused) 0) (r .refused) c → d ≡ gridTested W H t c
-  unfolding gridTested gridChecks explicitChecks axisChecks Numbered
-  grid-made c d vs ks r e f g = cases (eqb (c .refused) 0) refl
-    where
-      cases : (b : Bool) → eqb (c .refused) 0 ≡ b → d ≡ gridTested W H t c
-      cases true z =
-          let h = eqb-true (c .refused) 0 z in
-          let q = f h in
-          let same : r ≡ gridSizes W H ctu ws hs = e ∙ rw (q .1 .0, q .1 .1) in
-          let number : r .refused ≡ numberOf (firstBad (gridChecks W H ctu ws hs)) = ap (λ (x : SizesAnswer). x .refused) same ∙ grid-number W H ctu ws hs in
-          g ∙ rw number
-          (checks-first (gridChecks W H ctu ws hs) c (lit< tt, (lit< tt, (lit< tt, (lit< tt, (lit< tt, (lit< tt, (lit< tt, (lit< tt, (lit< tt, tt))))))))) h
-          ∙ grid-checks c (q .0))
-      cases false z =
-          let h = eqb-false (c .refused) 0 z in
-          g ∙ demanded-refused (eqb (r .refused) 0) (r .refused) c h
-          ∙ sym (rw (demanded-refused _ 12 c h, demanded-refused _ 13 c h, demanded-refused _ 12 c h, demanded-refused _ 13 c h) refl)
+  pub grid-accepted : gridTested W H t c .refused ≡ 0 → GridFits
+  unfolding gridTested withinLimits tileGrid
+  grid-accepted h =
+      let a = demanded-held _ 13 _ (lit< tt) h in
+      let b = demanded-held _ 12 _ (lit< tt) (a .1) in
+      let d = demanded-held _ 13 _ (lit< tt) (b .1) in
+      record { limited = limits-held _ _ (and-true _ _ (d .0) (a .0)); rowsFit = leb-true _ _ (b .0) }

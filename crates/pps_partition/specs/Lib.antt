@@ -2,7 +2,6 @@ pub mod TileSizes
 pub mod SliceFlags
 pub mod Block
 pub mod GridTests
-pub mod Accepted
 pub mod Slicing
 pub mod Answers
 pub mod TilesStored

@@ -6,17 +6,18 @@ use mathlib.Core.Bool.{Bool, true, false, not, cond, _&&_}
 use lib.Dec.{eqb, ltb}
 use borrow.Author.Tests.{eqb-true, eqb-false}
 use Rattle.bit_reader.specs.declared.Cursor.{Cursor}
+use Rattle.bit_reader.specs.Reading.{uRead}
+use Rattle.bit_reader.specs.Laws.{going-on}
 use Rattle.partition.specs.Entry.{Position, firstPosition}
 use Rattle.partition.specs.Grid.{Grid}
 use Rattle.partition.specs.Walk.{onward}
 use Rattle.pps_syntax.specs.PartitionSyntax.{partition, several}
 use Rattle.pps_syntax.specs.SliceSyntax.{RectSlice, entryOf, rectSlice, rectSlices}
 use Rattle.syntax.specs.Element.{Parsed}
-use Rattle.syntax.specs.Elements.{orElse, isSet}
+use Rattle.syntax.specs.Elements.{flag, absent, sameℕ, orElse, isSet}
 use Rattle.syntax.specs.Lists.{none}
 use Rattle.syntax.specs.Syntax.{parse}
 use Rattle.pps_slices.specs.Loop.{refusedFrom, refusedHeights, turns, turns-end, turns-more, turns-stop, all-turns}
-use Rattle.pps_partition.specs.Accepted.{flag-going}
 use Rattle.pps_partition.specs.Block.{gridFrom, gridTested, codedSlices, block-read}
 use Rattle.pps_partition.specs.PartitionAnswer.{partitionLeft}
 use Rattle.pps_partition.specs.SliceFlags.{flags-parts}
@@ -26,6 +27,11 @@ use Rattle.pps_partition.specs.TileSizes.{tileSizes, tiles-parts}
 
 refused-of : {A : Type 0} {x y : Parsed A} → x ≡ y → x .next .refused ≡ 0 → y .next .refused ≡ 0
 refused-of {A} e h = sym (ap (λ (p : Parsed A). p .next .refused) e) ∙ h
+
+flag-going : (on : Bool) (v k : ℕ) (s : List ℕ) (c : Cursor) → orElse on flag (absent sameℕ v k) .read s c .next .refused ≡ 0 → c .refused ≡ 0
+unfolding orElse uRead
+flag-going true v k s c h = going-on c _ h
+flag-going false v k s c h = h
 
 module _ (g : Grid) (deltas : Bool) (N : ℕ) (s : List ℕ) where
   turns-none : (fuel : ℕ) (k : Position) (c : Cursor) → turns g deltas N fuel k .read s c .next .refused ≡ 0 → refusedFrom g deltas N fuel k s c ≡ []

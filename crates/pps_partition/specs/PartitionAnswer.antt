@@ -1,11 +1,10 @@
 -- What reading the partition block answers and leaves in the tables.
 use Prim.Native.Nat.{ℕ}
 use mathlib.Core.List.{List, [], _∷_}
-use mathlib.Core.Bool.{Bool, cond, _&&_}
-use lib.Dec.{eqb, leb}
+use mathlib.Core.Bool.{cond}
+use lib.Dec.{eqb}
 use Rattle.bit_reader.specs.declared.Cursor.{Cursor}
-use Rattle.bit_reader.specs.Reading.{demanded}
-use Rattle.partition.specs.Grid.{Grid, maxTileColumns, maxTiles}
+use Rattle.partition.specs.Grid.{Grid}
 use Rattle.pps_record.specs.declared.VvcPpsPartition.{VvcPpsPartition}
 use Rattle.pps_syntax.specs.PartitionSyntax.{PartitionBlock, several}
 use Rattle.pps_syntax.specs.Record.{partitionRecord}
@@ -19,13 +18,6 @@ use Rattle.pps_syntax.specs.SliceFlags.{SliceFlags}
 use Rattle.pps_partition.specs.Slicing.{codedLeft}
 use Rattle.pps_partition.specs.TileSizes.{TileSizes, tileSizes}
 
--- the tables that reading looks back into have their lengths
-unfoldable pub sizesLong : ℕ → ℕ → ℕ → Bool
-sizesLong columns rows heights = leb maxTileColumns columns && (leb maxTiles rows && leb 1000 heights)
-
-unfoldable pub partitionStart : ℕ → ℕ → ℕ → Cursor → Cursor
-partitionStart columns rows heights c = demanded (sizesLong columns rows heights) 5 c
-
 abbrev pub answer : VvcPpsPartition → Cursor → PartitionRead
 answer value next = record { value = value; next = next }
 
@@ -33,7 +25,8 @@ answer value next = record { value = value; next = next }
 unfoldable pub partitionAnswer : Parsed PartitionBlock → PartitionRead
 partitionAnswer p = answer (cond (eqb (p .next .refused) 0) (partitionRecord 1 (p .value ∷ [])) (partitionRecord 0 [])) (p .next)
 
--- the explicit slice heights of an entry that was refused: those of the slice loop, which stands behind the tile sizes, the grid's tests and the flags
+-- the explicit slice heights of an entry that was refused: those of the slice loop, which stands behind the tile sizes,
+-- the grid's tests and the flags
 unfoldable pub partitionLeft : ℕ → ℕ → List ℕ → Cursor → List ℕ
 partitionLeft W H s c =
     let t : Parsed TileSizes = parse (tileSizes W H) s c in

@@ -1,33 +1,34 @@
--- The block behind its grid (H.266 7.3.2.5): flags, slices, and the last flag. Where reading is refused only the cursor and the tables are of account.
-use Prim.Native.Nat.{ℕ, _≤_}
-use mathlib.Core.Path.{_≡_, refl, sym, ap, ap₂, subst, _∙_}
+-- The block behind its grid (H.266 7.3.2.5): flags, slices, and the last flag. Where reading is refused only the cursor
+-- and the tables are of account.
+use Prim.Native.Nat.{ℕ, _*_, _≤_, _<_}
+use mathlib.Core.Path.{_≡_, refl, sym, ap, ap₂, _∙_}
 use mathlib.Core.List.{List, []}
 use mathlib.Core.Bool.{Bool, true, false, not, cond, _&&_}
+use native.Mathlib.Nat.{mul-le-mul-left, mul-le-mul-right}
 use native.Mathlib.Omega.{arith}
 use lib.Dec.{eqb, ltb}
-use lib.ListN.{length}
+use lib.ListN.{length, take}
+use lib.Seq.{take-all}
 use Rattle.bit_reader.specs.declared.Cursor.{Cursor}
 use Rattle.bit_reader.specs.declared.BitsRead.{BitsRead}
 use Rattle.bit_reader.specs.Laws.{u-stays, demanded-refused}
 use Rattle.partition.specs.Entry.{firstPosition}
-use Rattle.partition.specs.Grid.{Grid, gridOf}
+use Rattle.partition.specs.Grid.{Grid, maxTiles}
+use Rattle.pps_syntax.specs.PartitionSyntax.{several, slicesMinus1}
+use Rattle.pps_syntax.specs.SliceFlags.{SliceFlags, codes}
 use Rattle.pps_syntax.specs.SliceSyntax.{RectSlice, rectSlices}
 use Rattle.pps_syntax.specs.SliceTables.{SliceTables, allSplitHeights}
-use Rattle.syntax.specs.Element.{Parsed, parsed}
+use Rattle.syntax.specs.Element.{Parsed, parsed, Element}
 use Rattle.syntax.specs.Elements.{flag, absent, sameℕ, orElse, isSet}
 use Rattle.syntax.specs.Lists.{none}
 use Rattle.syntax.specs.Syntax.{parse}
-use Rattle.pps_slices.specs.Held.{SlicesRead}
-use Rattle.tile_sizes.specs.Limits.{withinLimits}
-use Rattle.pps_slices.specs.Limits.{loopStart, slicesFor, refusedFor}
+use Rattle.pps_slices.specs.Grids.{GridHas}
+use Rattle.pps_slices.specs.Held.{SlicesRead, LoopRead}
 use Rattle.pps_slices.specs.Loop.{slicesLeft, refusedHeights}
 use Rattle.pps_slices.specs.SizeReads.{ue-stuck}
 use Rattle.pps_slices.specs.Stuck.{slices-stuck, refused-stuck}
-use Rattle.pps_partition.specs.Accepted.{flags-accepted, start-same}
 use Rattle.pps_partition.specs.Block.{codedSlices, acrossSlices}
 use Rattle.pps_partition.specs.SliceFlags.{sliceFlags, FlagsRead, flags-parts}
-use Rattle.pps_syntax.specs.SliceFlags.{SliceFlags, codes}
-use Rattle.pps_syntax.specs.PartitionSyntax.{slicesMinus1}
 
 -- the explicit slice heights of an entry that is refused
 unfoldable pub codedLeft : Grid → SliceFlags → List ℕ → Cursor → List ℕ
@@ -105,61 +106,52 @@ module _ (s : List ℕ) (c : Cursor) (stuck : c .refused ≡ 0 → ⊥) where
   sliced-none g several t f count across next e = rw e (sliced-stuck g several t f count across)
 
 -- ---- how code comes to it
--- the slices as they are read where they are coded, over the grid's column widths and row heights
-abbrev pub slicesIf : Bool → List ℕ → List ℕ → Bool → ℕ → ℕ → List ℕ → Cursor → Parsed (List RectSlice)
-slicesIf on ws hs deltas N places s c = cond on (slicesFor ws hs deltas N places s c) (parsed [] c)
+-- the slices, and what an entry that is refused leaves, where slices are coded
+abbrev pub slicesIf : Bool → Grid → Bool → ℕ → Element (List RectSlice)
+slicesIf on g deltas N = orElse on (rectSlices g deltas N firstPosition) (none 26)
 
-abbrev pub leftIf : Bool → List ℕ → List ℕ → Bool → ℕ → ℕ → List ℕ → Cursor → List ℕ
-leftIf on ws hs deltas N places s c = cond on (refusedFor ws hs deltas N places s c) []
+abbrev pub leftIf : Bool → Grid → Bool → ℕ → List ℕ → Cursor → List ℕ
+leftIf on g deltas N s c = cond on (refusedHeights g deltas N firstPosition s c) []
 
--- a start that is no other leaves them the description's
-coded-same : (ws hs : List ℕ) (f : SliceFlags) (places : ℕ) (s : List ℕ) (c : Cursor) → loopStart (length ws) (length hs) (f .«pps_num_slices_in_pic_minus1») places c ≡ c
-    → (slicesIf (codes f) ws hs (isSet (f .«pps_tile_idx_delta_present_flag»)) (f .«pps_num_slices_in_pic_minus1») places s c ≡ codedSlices (gridOf ws hs) f .read s c)
-    × (leftIf (codes f) ws hs (isSet (f .«pps_tile_idx_delta_present_flag»)) (f .«pps_num_slices_in_pic_minus1») places s c ≡ codedLeft (gridOf ws hs) f s c)
-unfolding orElse codedLeft slicesFor refusedFor
-coded-same ws hs f places s c e = cases (codes f)
-  where
-    deltas : Bool
-    deltas = isSet (f .«pps_tile_idx_delta_present_flag»)
+module _ (on : Bool) (g : Grid) (deltas : Bool) (N : ℕ) (s : List ℕ) (c : Cursor) where
+  pub slices-coded : {t u : SliceTables} {count : ℕ} {next : Cursor} → on ≡ true → LoopRead g deltas N s c t u count next
+      → SlicesRead (slicesIf on g deltas N .read s c) (leftIf on g deltas N s c) t u count next
+  unfolding orElse
+  slices-coded e r = rw e r
 
-    N : ℕ
-    N = f .«pps_num_slices_in_pic_minus1»
-
-    cases : (b : Bool)
-        → (slicesIf b ws hs deltas N places s c ≡ orElse b (rectSlices (gridOf ws hs) deltas N firstPosition) (none 26) .read s c)
-        × (leftIf b ws hs deltas N places s c ≡ cond b (refusedHeights (gridOf ws hs) deltas N firstPosition s c) [])
-    cases true =
-        (ap (λ (d : Cursor). rectSlices (gridOf ws hs) deltas N firstPosition .read s d) e, ap (λ (d : Cursor). refusedHeights (gridOf ws hs) deltas N firstPosition s d) e)
-    cases false = (refl, refl)
+  pub slices-absent : (t : SliceTables) → on ≡ false → SlicesRead (slicesIf on g deltas N .read s c) (leftIf on g deltas N s c) t t 0 c
+  unfolding orElse slicesLeft allSplitHeights
+  slices-absent t e = rw e (record { nextIs = refl; counted = refl; tables = refl })
 
 -- flags, slices and the last flag, read one behind the other
-pub sliced-made : (ws hs : List ℕ) (several : Bool) (s : List ℕ) (c : Cursor) (t u : SliceTables) (f : SliceFlags) (d e : Cursor) (count across places : ℕ) (next : Cursor)
-    → withinLimits (length ws) (length hs) ≡ true → 1000 ≤ places → parsed f d ≡ parse (sliceFlags several) s c
-    → SlicesRead (slicesIf (codes f) ws hs (isSet (f .«pps_tile_idx_delta_present_flag»)) (f .«pps_num_slices_in_pic_minus1») places s d)
-    (leftIf (codes f) ws hs (isSet (f .«pps_tile_idx_delta_present_flag»)) (f .«pps_num_slices_in_pic_minus1») places s d) t u count e
-    → parsed across next ≡ acrossSlices f .read s e → Sliced (gridOf ws hs) several s c t u f count across next
-sliced-made ws hs several s c t u f d e count across places next w p q r a =
-    let F : FlagsRead several s c f d = subst (λ (x : Parsed SliceFlags). FlagsRead several s c (x .value) (x .next)) (sym q) (flags-parts several s c) in
-    let same = coded-same ws hs f places s d (start-same (length ws) (length hs) (f .«pps_num_slices_in_pic_minus1») places d (λ h. (w, omega (arith, flags-accepted several s c f d F h .0)))) in
-    let g = gridOf ws hs in
+pub sliced-made : (g : Grid) (several : Bool) (s : List ℕ) (c : Cursor) (t u : SliceTables) (f : SliceFlags) (d e : Cursor) (count across : ℕ) (next : Cursor)
+    → parsed f d ≡ parse (sliceFlags several) s c
+    → SlicesRead (slicesIf (codes f) g (isSet (f .«pps_tile_idx_delta_present_flag»)) (f .«pps_num_slices_in_pic_minus1») .read s d)
+    (leftIf (codes f) g (isSet (f .«pps_tile_idx_delta_present_flag»)) (f .«pps_num_slices_in_pic_minus1») s d) t u count e
+    → parsed across next ≡ acrossSlices f .read s e → Sliced g several s c t u f count across next
+unfolding codedLeft
+sliced-made g several s c t u f d e count across next q r a =
     let slices : codedSlices g f .read s d ≡ slicesAt g several s c = ap (λ (x : Parsed SliceFlags). codedSlices g (x .value) .read s (x .next)) q in
     let last : parsed across next ≡ acrossAt g several s c =
-    a ∙ ap (λ (x : Cursor). acrossSlices f .read s x) (r .nextIs ∙ ap (λ (x : Parsed (List RectSlice)). x .next) (same .0 ∙ slices))
+    a ∙ ap (λ (x : Cursor). acrossSlices f .read s x) (r .nextIs ∙ ap (λ (x : Parsed (List RectSlice)). x .next) slices)
     ∙ ap (λ (x : SliceFlags). acrossSlices x .read s (slicesAt g several s c .next)) (ap (λ (x : Parsed SliceFlags). x .value) q) in
     record {
       nextIs = ap (λ (x : Parsed ℕ). x .next) last;
       tables =
           r .tables
-          ∙ ap₂ (λ (x : Parsed (List RectSlice)) (l : List ℕ). slicesLeft t 0 0 (x .value) l) (same .0 ∙ slices) (same .1 ∙ ap (λ (x : Parsed SliceFlags). codedLeft g (x .value) s (x .next)) q);
-      values = λ z. (ap (λ (x : Parsed SliceFlags). x .value) q, (r .counted ∙ ap (λ (x : Parsed (List RectSlice)). length (x .value)) (same .0 ∙ slices), ap (λ (x : Parsed ℕ). x .value) last));
+          ∙ ap₂ (λ (x : Parsed (List RectSlice)) (l : List ℕ). slicesLeft t 0 0 (x .value) l) slices (ap (λ (x : Parsed SliceFlags). codedLeft g (x .value) s (x .next)) q);
+      values = λ z. (ap (λ (x : Parsed SliceFlags). x .value) q, (r .counted ∙ ap (λ (x : Parsed (List RectSlice)). length (x .value)) slices, ap (λ (x : Parsed ℕ). x .value) last));
     }
 
-module _ (on : Bool) (ws hs : List ℕ) (deltas : Bool) (N places : ℕ) (s : List ℕ) (c : Cursor) where
-  pub slices-coded : {t u : SliceTables} {count : ℕ} {next : Cursor} → on ≡ true
-      → SlicesRead (slicesFor ws hs deltas N places s c) (refusedFor ws hs deltas N places s c) t u count next
-      → SlicesRead (slicesIf on ws hs deltas N places s c) (leftIf on ws hs deltas N places s c) t u count next
-  slices-coded e r = rw e r
+-- there is more than one tile
+pub several-made : (m : ℕ) (hs : List ℕ) (g : Grid) → GridHas m hs g → ltb 1 (length hs * m) ≡ several g
+several-made m hs g h = rw (h .columnsAre, h .heightsAre)
 
-  pub slices-absent : (t : SliceTables) → on ≡ false → SlicesRead (slicesIf on ws hs deltas N places s c) (leftIf on ws hs deltas N places s c) t t 0 c
-  unfolding slicesLeft allSplitHeights
-  slices-absent t e = rw e (record { nextIs = refl; counted = refl; tables = refl })
+-- all row heights are looked at
+pub all-rows : (m : ℕ) (hs : List ℕ) (g : Grid) → length hs ≤ maxTiles → GridHas m hs g → GridHas m (take maxTiles hs) g
+all-rows m hs g l h = record { columnsAre = h .columnsAre; heightsAre = h .heightsAre ∙ sym (take-all maxTiles hs l) }
+
+pub tiles-fit : (rows m : ℕ) → rows ≤ maxTiles → m < 256 → rows * m < 18446744073709551616
+tiles-fit rows m low h =
+    let few : m ≤ 255 = omega arith in
+    omega (arith, mul-le-mul-right m low, mul-le-mul-left maxTiles few)

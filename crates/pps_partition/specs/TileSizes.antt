@@ -1,4 +1,5 @@
--- The front of the partition block (H.266 7.3.2.5): the CTU size and the explicit tile sizes of a picture of W by H luma samples.
+-- The front of the partition block (H.266 7.3.2.5): the CTU size and the explicit tile sizes of a picture of W by H
+-- luma samples.
 use Prim.Native.Nat.{ℕ, _-_}
 use mathlib.Core.Path.{_≡_, refl, _∙_}
 use mathlib.Core.List.{List}

@@ -1,70 +1,48 @@
 -- The parts of the block, one behind the other, are the block as its description has it.
-use Prim.Native.Nat.{ℕ, _≤_, _<_}
+use Prim.Native.Nat.{ℕ, _≤_}
 use mathlib.Core.Path.{_≡_, refl, sym, ap, subst, _∙_}
 use mathlib.Core.List.{List, [], _∷_}
-use mathlib.Core.Bool.{Bool, true, false, cond, _&&_}
+use mathlib.Core.Bool.{Bool, true, false, cond}
 use native.Mathlib.Omega.{arith}
-use lib.Dec.{eqb, leb, lit<}
-use lib.ListN.{length, take}
-use lib.Seq.{sets, length-sets}
-use borrow.Author.Tests.{eqb-true, eqb-false, leb-true}
+use lib.Dec.{eqb}
+use lib.ListN.{length, take, drop, length-take}
+use lib.Seq.{sets, take-at}
+use borrow.Author.Tests.{eqb-true, ne-eqb}
+use Rattle.tables.specs.Tables.{over, over-length}
 use Rattle.bit_reader.specs.declared.Cursor.{Cursor}
-use Rattle.bit_reader.specs.Reading.{demanded}
 use Rattle.partition.specs.Grid.{Grid, columns, rows, maxTileColumns, maxTiles}
+use Rattle.partition.specs.Partition.{tileGrid}
+use Rattle.partition.specs.Sizes.{uniformSize, axisSizes, Fit}
 use Rattle.pps_record.specs.declared.VvcPpsPartition.{VvcPpsPartition}
 use Rattle.pps_syntax.specs.PartitionSyntax.{PartitionBlock, partition, several}
 use Rattle.pps_syntax.specs.Record.{partitionRecord}
+use Rattle.pps_syntax.specs.SliceFlags.{SliceFlags}
 use Rattle.pps_syntax.specs.SliceSyntax.{RectSlice}
 use Rattle.pps_syntax.specs.SliceTables.{SliceTables}
 use Rattle.syntax.specs.Element.{Parsed, parsed}
-use Rattle.syntax.specs.Round.{and-parts}
 use Rattle.syntax.specs.Syntax.{parse}
-use Rattle.grid_sizes.specs.declared.SizesAnswer.{SizesAnswer}
-use Rattle.grid_sizes.specs.Answers.{gridOfSizes, gridSizes}
-use Rattle.grid_sizes.specs.Laws.{grid-sizes}
-use Rattle.pps_slices.specs.EntryMade.{part-is}
-use Rattle.tile_sizes.specs.Limits.{withinLimits}
+use Rattle.pps_fields.specs.declared.lists.AxisRead.{AxisRead}
+use Rattle.pps_fields.specs.Axis.{axisOf}
+use Rattle.pps_slices.specs.Grids.{GridHas}
 use Rattle.pps_slices.specs.Loop.{slicesLeft}
-use Rattle.pps_slices.specs.SizeReads.{demanded-held}
 use Rattle.pps_partition.specs.declared.PartitionRead.{PartitionRead}
 use Rattle.pps_partition.specs.declared.slicing.SlicingRead.{SlicingRead}
-use Rattle.pps_partition.specs.Accepted.{tiles-accepted, grid-accepted}
+use Rattle.pps_partition.specs.declared.tiles.TileSizesRead.{TileSizesRead}
 use Rattle.pps_partition.specs.Answers.{flagsOf}
-use Rattle.grid_sizes.specs.Fronts.{GridIs}
 use Rattle.pps_partition.specs.Block.{gridFrom, gridTested, blockOf, block-read}
-use Rattle.pps_partition.specs.GridTests.{SizesFine, grid-made}
-use Rattle.pps_partition.specs.PartitionAnswer.{sizesLong, partitionStart, partitionAnswer, partitionLeft, answer, partitionNumbers, partitionOf}
+use Rattle.pps_partition.specs.GridTests.{axesTested, axes-tested, GridFits, grid-accepted}
+use Rattle.pps_partition.specs.PartitionAnswer.{partitionAnswer, partitionLeft, answer, partitionNumbers, partitionOf}
 use Rattle.pps_partition.specs.SliceFlags.{flags-parts}
-use Rattle.pps_syntax.specs.SliceFlags.{SliceFlags}
-use Rattle.pps_partition.specs.Slicing.{flagsAt, slicesAt, acrossAt, Sliced}
+use Rattle.pps_partition.specs.Slicing.{flagsAt, slicesAt, acrossAt, Sliced, sliced-none}
 use Rattle.pps_partition.specs.TileSizes.{TileSizes, tileSizes, tiles-parts}
-use Rattle.pps_partition.specs.TilesStored.{TilesStored}
-
--- ---- the start
-pub record Long (columns rows heights : ℕ) : Type 0 where
-  pub columnsLong : maxTileColumns ≤ columns
-  pub rowsLong : maxTiles ≤ rows
-  pub heightsLong : 1000 ≤ heights
-
-start-held : (columns rows heights : ℕ) (c : Cursor) → partitionStart columns rows heights c .refused ≡ 0 → Long columns rows heights
-unfolding partitionStart sizesLong
-start-held columns rows heights c h =
-    let a = demanded-held (leb maxTileColumns columns && (leb maxTiles rows && leb 1000 heights)) 5 c (lit< tt) h in
-    let p = and-parts (leb maxTileColumns columns) (leb maxTiles rows && leb 1000 heights) (a .0) in
-    let q = and-parts (leb maxTiles rows) (leb 1000 heights) (p .1) in
-    record { columnsLong = leb-true maxTileColumns columns (p .0); rowsLong = leb-true maxTiles rows (q .0); heightsLong = leb-true 1000 heights (q .1) }
-
--- an answer whose number refuses nothing is 0
-answer-zero : (n : ℕ) (c : Cursor) → demanded (eqb n 0) n c .refused ≡ 0 → n ≡ 0
-answer-zero n c h = cases (eqb n 0) refl h
-  where
-    cases : (b : Bool) → eqb n 0 ≡ b → demanded b n c .refused ≡ 0 → n ≡ 0
-    cases true e z = eqb-true n 0 e
-    cases false e z =
-        let some : 0 < n = omega (arith, eqb-false n 0 e) in
-        absurd (let w : _≡_ {A = ℕ} 0 1 = cc (demanded-held false n c some z .0) in omega arith)
+use Rattle.pps_partition.specs.TilesStored.{TilesStored, rows-within, rows-front, stored-lengths}
 
 -- ---- the answer
+-- nothing was read behind the grid
+nothing : Cursor → SlicingRead
+nothing next =
+    record { «across_tiles» = 0; rect = 0; single = 0; «num_slices_minus1» = 0; deltas = 0; «num_rect_slices» = 0; «across_slices» = 0; next = next }
+
 numbers-same : (t : TileSizes) (f : SliceFlags) (rs : List RectSlice) (a ctu n m : ℕ) (r : SlicingRead) → ctu ≡ t .«pps_log2_ctu_size_minus5» → n ≡ length (t .«pps_tile_column_width_minus1»)
     → m ≡ length (t .«pps_tile_row_height_minus1») → (flagsOf r ≡ f) × ((r .«num_rect_slices» ≡ length rs) × (r .«across_slices» ≡ a)) → partitionNumbers ctu n m r ≡ partitionRecord 1 (blockOf t f rs a ∷ [])
 unfolding partitionNumbers partitionRecord
@@ -81,108 +59,96 @@ answer-same t f rs a d ctu n m r e₁ e₂ e₃ e v = rw (← e) (cases (eqb (r 
     cases true z = ap (λ (x : VvcPpsPartition). answer x (r .next)) (numbers-same t f rs a ctu n m r e₁ e₂ e₃ (v (eqb-true (r .next .refused) 0 z)))
     cases false z = refl
 
-module _ (W H : ℕ) (s : List ℕ) (c : Cursor) (places : ℕ) (t₁ t₂ : List ℕ) where
-  abbrev start : Cursor
-  start = partitionStart (length t₁) (length t₂) places c
-
+module _ (W H : ℕ) (s : List ℕ) (c : Cursor) where
   abbrev T : Parsed TileSizes
-  T = parse (tileSizes W H) s start
+  T = parse (tileSizes W H) s c
 
   abbrev g : Grid
   g = gridFrom W H (T .value)
 
-  -- tile sizes that were accepted are the fronts of their tables
-  stored-fine : (u₁ u₂ : List ℕ) (ctu n m : ℕ) (next : Cursor) → TilesStored T t₁ t₂ u₁ u₂ ctu n m next → T .next .refused ≡ 0
-      → SizesFine W H (T .value) × ((take n u₁ ≡ T .value .«pps_tile_column_width_minus1») × (take m u₂ ≡ T .value .«pps_tile_row_height_minus1»))
-  stored-fine u₁ u₂ ctu n m next S h =
-      let a = tiles-accepted W H s start (T .value) (T .next) (tiles-parts W H s start) h in
-      let l = start-held (length t₁) (length t₂) places c (a .before) in
-      let ws = T .value .«pps_tile_column_width_minus1» in
-      let hs = T .value .«pps_tile_row_height_minus1» in (
-        a .sizesFine,
-        (
-          ap (take n) (S .widths) ∙ part-is t₁ ws 0 n (S .columnsAre) (omega (arith, a .fewColumns, l .columnsLong)),
-          ap (take m) (S .heights) ∙ part-is t₂ hs 0 m (S .rowsAre) (omega (arith, a .fewRows, l .rowsLong)),
-        ),
-      )
-
-  -- the grid's tests, and what they have shown
-  pub record GridTested (answer : SizesAnswer) (tested : Cursor) : Type 0 where
-    pub testedIs : tested ≡ gridTested W H (T .value) (T .next)
-    pub gridIs : tested .refused ≡ 0 → GridIs g (answer .sizes)
-    pub ready : tested .refused ≡ 0 → (withinLimits (answer .sizes .«num_tile_columns») (answer .sizes .«num_tile_rows») ≡ true) × (1000 ≤ places)
-
-  pub grid-tested : (u₁ u₂ : List ℕ) (ctu n m : ℕ) (next : Cursor) (answer : SizesAnswer) (tested : Cursor) → TilesStored T t₁ t₂ u₁ u₂ ctu n m next
-      → answer ≡ gridSizes W H ctu (take n u₁) (take m u₂) → tested ≡ demanded (eqb (answer .refused) 0) (answer .refused) next → GridTested answer tested
-  unfolding gridOfSizes
-  grid-tested u₁ u₂ ctu n m next answer tested S e f =
-      let size : answer ≡ gridSizes W H (T .value .«pps_log2_ctu_size_minus5») (take n u₁) (take m u₂) = e ∙ ap (λ (x : ℕ). gridSizes W H x (take n u₁) (take m u₂)) (S .ctuIs) in
-      let behind : tested ≡ demanded (eqb (answer .refused) 0) (answer .refused) (T .next) = f ∙ ap (demanded (eqb (answer .refused) 0) (answer .refused)) (S .nextIs) in
-      let is : tested ≡ gridTested W H (T .value) (T .next) = grid-made W H (T .value) (T .next) tested (take n u₁) (take m u₂) answer size (stored-fine u₁ u₂ ctu n m next S) behind in
-      let held : tested .refused ≡ 0 → GridIs g (answer .sizes) =
-      λ z.
-      let p = grid-accepted W H (T .value) (T .next) (sym (ap (λ (x : Cursor). x .refused) is) ∙ z) in
-      let q = stored-fine u₁ u₂ ctu n m next S (p .1) in
-      let whole : answer ≡ gridSizes W H (T .value .«pps_log2_ctu_size_minus5») (T .value .«pps_tile_column_width_minus1») (T .value .«pps_tile_row_height_minus1») = size ∙ rw (q .1 .0, q .1 .1) in
-      let zero : answer .refused ≡ 0 = answer-zero (answer .refused) (T .next) (sym (ap (λ (x : Cursor). x .refused) behind) ∙ z) in
-      let sized : answer ≡ gridOfSizes (g .columnWidths) (g .rowHeights) = whole ∙ grid-sizes W H _ _ _ (sym (ap (λ (x : SizesAnswer). x .refused) whole) ∙ zero) in
-      record {
-        columnsAre = ap (λ (x : SizesAnswer). x .sizes .«num_tile_columns») sized;
-        rowsAre = ap (λ (x : SizesAnswer). x .sizes .«num_tile_rows») sized;
-        widthsAre = ap (λ (x : SizesAnswer). x .sizes .«column_widths») sized;
-        heightsAre = ap (λ (x : SizesAnswer). x .sizes .«row_heights») sized;
-      } in
-      record {
-        testedIs = is;
-        gridIs = held;
-        ready = λ z.
-            let p = grid-accepted W H (T .value) (T .next) (sym (ap (λ (x : Cursor). x .refused) is) ∙ z) in
-            let a = tiles-accepted W H s start (T .value) (T .next) (tiles-parts W H s start) (p .1) in
-            let i = held z in
-            (rw (i .columnsAre, i .rowsAre) (p .0), start-held (length t₁) (length t₂) places c (a .before) .heightsLong);
-      }
-
   abbrev block : Parsed PartitionBlock
-  block = parse (partition W H) s start
+  block = parse (partition W H) s c
 
   -- all that a call of the reader gives
-  abbrev Read : List ℕ → List ℕ → SliceTables → SliceTables → PartitionRead → Type 0
-  Read u₁ u₂ before after r =
+  abbrev Read : List ℕ → List ℕ → List ℕ → List ℕ → SliceTables → SliceTables → PartitionRead → Type 0
+  Read t₁ t₂ u₁ u₂ before after r =
       (r ≡ partitionAnswer block)
       × ((u₁ ≡ sets t₁ 0 (block .value .«pps_tile_column_width_minus1»))
       × ((u₂ ≡ sets t₂ 0 (block .value .«pps_tile_row_height_minus1»))
-      × (after ≡ slicesLeft before 0 0 (block .value .rectSlices) (partitionLeft W H s start))))
+      × (after ≡ slicesLeft before 0 0 (block .value .rectSlices) (partitionLeft W H s c))))
 
-  pub partition-made : (u₁ u₂ : List ℕ) (ctu n m : ℕ) (next : Cursor) (answer : SizesAnswer) (tested : Cursor) (before after : SliceTables) (r : SlicingRead) (x : PartitionRead)
-      → TilesStored T t₁ t₂ u₁ u₂ ctu n m next → GridTested answer tested
-      → Sliced g (several g) s tested before after (flagsOf r) (r .«num_rect_slices») (r .«across_slices») (r .next) → x ≡ partitionOf ctu n m r → Read u₁ u₂ before after x
-  unfolding partitionLeft
-  partition-made u₁ u₂ ctu n m next answer tested before after r x S G sliced e =
-      let d : Cursor = gridTested W H (T .value) (T .next) in
-      let L = subst (λ (y : Cursor). Sliced g (several g) s y before after (flagsOf r) (r .«num_rect_slices») (r .«across_slices») (r .next)) (G .testedIs) sliced in
-      let f = flagsAt g (several g) s d .value in
-      let slices = slicesAt g (several g) s d in
-      let across = acrossAt g (several g) s d in
-      let is : parsed (blockOf (T .value) f (slices .value) (across .value)) (across .next) ≡ block =
-      block-read W H s start (T .value) f (slices .value) (across .value) (T .next) (flagsAt g (several g) s d .next) (slices .next) (across .next) (tiles-parts W H s start)
-      (flags-parts (several g) s d) refl refl in (
-        e ∙ answer-same (T .value) f (slices .value) (across .value) (across .next) ctu n m r (S .ctuIs) (S .columnsAre) (S .rowsAre) (L .nextIs) (L .values) ∙ ap partitionAnswer is,
-        (
-          S .widths ∙ ap (λ (y : Parsed PartitionBlock). sets t₁ 0 (y .value .«pps_tile_column_width_minus1»)) is,
+  -- the tile sizes are in the lent table of widths t₁ and in a table v of the limit, whose front is copied to the lent
+  -- table of heights t₂
+  module _ {t₁ v₀ u₁ v : List ℕ} {z : TileSizesRead} (S : TilesStored W H T t₁ v₀ u₁ v z) (long : length v₀ ≡ maxTiles) {tested : Cursor} (test : tested ≡ axesTested (z .columns) (z .rows)) where
+    testedIs : tested ≡ gridTested W H (T .value) (T .next)
+    testedIs = test ∙ axes-tested W H (T .value) (T .next) (S .between) (z .columns) (z .rows) (S .columnsAre) (S .rowsAre)
+
+    counts : (z .columns .count ≡ length (T .value .«pps_tile_column_width_minus1»)) × (z .rows .count ≡ length (T .value .«pps_tile_row_height_minus1»))
+    unfolding axisOf
+    counts = (ap (λ (x : AxisRead). x .count) (S .columnsAre), ap (λ (x : AxisRead). x .count) (S .rowsAre))
+
+    pub partition-made : (t₂ u₂ : List ℕ) (before after : SliceTables) (r : SlicingRead) (x : PartitionRead) → u₂ ≡ sets t₂ 0 (take (z .rows .count) v)
+        → Sliced g (several g) s tested before after (flagsOf r) (r .«num_rect_slices») (r .«across_slices») (r .next)
+        → x ≡ partitionOf (z .ctu) (z .columns .count) (z .rows .count) r → Read t₁ t₂ u₁ u₂ before after x
+    unfolding partitionLeft
+    partition-made t₂ u₂ before after r x copied sliced e =
+        let d : Cursor = gridTested W H (T .value) (T .next) in
+        let L = subst (λ (y : Cursor). Sliced g (several g) s y before after (flagsOf r) (r .«num_rect_slices») (r .«across_slices») (r .next)) testedIs sliced in
+        let f = flagsAt g (several g) s d .value in
+        let slices = slicesAt g (several g) s d in
+        let across = acrossAt g (several g) s d in
+        let is : parsed (blockOf (T .value) f (slices .value) (across .value)) (across .next) ≡ block =
+        block-read W H s c (T .value) f (slices .value) (across .value) (T .next) (flagsAt g (several g) s d .next) (slices .next) (across .next) (tiles-parts W H s c)
+        (flags-parts (several g) s d) refl refl in (
+          e ∙ answer-same (T .value) f (slices .value) (across .value) (across .next) (z .ctu) (z .columns .count) (z .rows .count) r (S .ctuIs) (counts .0) (counts .1) (L .nextIs) (L .values)
+              ∙ ap partitionAnswer is,
           (
-            S .heights ∙ ap (λ (y : Parsed PartitionBlock). sets t₂ 0 (y .value .«pps_tile_row_height_minus1»)) is,
-            L .tables ∙ ap (λ (y : Parsed PartitionBlock). slicesLeft before 0 0 (y .value .rectSlices) (partitionLeft W H s start)) is,
+            S .widths ∙ ap (λ (y : Parsed PartitionBlock). sets t₁ 0 (y .value .«pps_tile_column_width_minus1»)) is,
+            (
+              copied ∙ ap (sets t₂ 0) (rows-front W H s c S long) ∙ ap (λ (y : Parsed PartitionBlock). sets t₂ 0 (y .value .«pps_tile_row_height_minus1»)) is,
+              L .tables ∙ ap (λ (y : Parsed PartitionBlock). slicesLeft before 0 0 (y .value .rectSlices) (partitionLeft W H s c)) is,
+            ),
           ),
-        ),
-      )
+        )
 
-  -- the start as code comes to it
-  pub stored-from : (long : Bool) (d : Cursor) (u₁ u₂ : List ℕ) (ctu n m : ℕ) (next : Cursor) → long ≡ sizesLong (length t₁) (length t₂) places → d ≡ demanded long 5 c
-      → TilesStored (parse (tileSizes W H) s d) t₁ t₂ u₁ u₂ ctu n m next → TilesStored T t₁ t₂ u₁ u₂ ctu n m next
-  unfolding partitionStart
-  stored-from long d u₁ u₂ ctu n m next e f S =
-      subst (λ (x : Cursor). TilesStored (parse (tileSizes W H) s x) t₁ t₂ u₁ u₂ ctu n m next) (f ∙ ap (λ (b : Bool). demanded b 5 c) e) S
+    -- a refusal before the slices
+    pub partition-stuck : (t₂ u₂ : List ℕ) (t : SliceTables) (value : VvcPpsPartition) → u₂ ≡ sets t₂ 0 (take (z .rows .count) v) → (tested .refused ≡ 0 → ⊥)
+        → value ≡ partitionRecord 0 [] → Read t₁ t₂ u₁ u₂ t t (answer value tested)
+    unfolding partitionOf nothing
+    partition-stuck t₂ u₂ t value copied stuck e =
+        partition-made t₂ u₂ t t (nothing tested) (answer value tested) copied (sliced-none s tested stuck g (several g) t _ _ _ tested refl) (rw (e, ne-eqb (tested .refused) 0 stuck))
 
-pub columns-long : {T : Parsed TileSizes} {t₁ t₂ u₁ u₂ : List ℕ} {ctu n m : ℕ} {next : Cursor} → TilesStored T t₁ t₂ u₁ u₂ ctu n m next → (length u₁ ≡ length t₁) × (length u₂ ≡ length t₂)
-columns-long {T} {t₁} {t₂} S =
-    (ap length (S .widths) ∙ length-sets t₁ 0 (T .value .«pps_tile_column_width_minus1»), ap length (S .heights) ∙ length-sets t₂ 0 (T .value .«pps_tile_row_height_minus1»))
+    -- ---- the grid where nothing is refused
+    module _ (fine : tested .refused ≡ 0) where
+      fits : GridFits W H (T .value) (T .next)
+      fits = grid-accepted W H (T .value) (T .next) (sym (ap (λ (x : Cursor). x .refused) testedIs) ∙ fine)
+
+      pub sizes-are : (z .columns .sizes ≡ columns g) × (z .rows .sizes ≡ rows g)
+      unfolding axisOf tileGrid
+      sizes-are = (ap (λ (x : AxisRead). x .sizes) (S .columnsAre), ap (λ (x : AxisRead). x .sizes) (S .rowsAre))
+
+      pub grid-small : (z .columns .sizes ≤ maxTileColumns) × (z .rows .sizes ≤ maxTiles)
+      grid-small = (omega (arith, sizes-are .0, fits .limited .few), omega (arith, sizes-are .1, fits .limited .low))
+
+      -- what `spread` asks for
+      pub spread-ready : (z .rows .count ≤ length v) × (z .rows .uniform ≡ uniformSize (take (z .rows .count) v)) × Fit (take (z .rows .count) v) (z .«pic_height» .0)
+          × (length (axisSizes (take (z .rows .count) v) (z .«pic_height» .0)) ≤ length v)
+      unfolding axisOf tileGrid
+      spread-ready =
+          rw (rows-front W H s c S long, S .heightIs)
+          (rows-within W H s c S long, ap (λ (x : AxisRead). x .uniform) (S .rowsAre), fits .rowsFit, omega (arith, fits .limited .low, stored-lengths W H s c S .1))
+
+      -- it leaves room for the rows
+      pub spread-length : {w : List ℕ} → w ≡ over (axisSizes (take (z .rows .count) v) (z .«pic_height» .0)) v → z .rows .sizes ≤ length w
+      spread-length e = omega (arith, ap length e, over-length (axisSizes (take (z .rows .count) v) (z .«pic_height» .0)) v (spread-ready .3), grid-small .1, stored-lengths W H s c S .1)
+
+      pub rows-few : (w : List ℕ) → length (take (z .rows .sizes) w) ≤ maxTiles
+      rows-few w = omega (arith, length-take (z .rows .sizes) w, grid-small .1)
+
+      pub grid-has : {w : List ℕ} → w ≡ over (axisSizes (take (z .rows .count) v) (z .«pic_height» .0)) v → GridHas (z .columns .sizes) (take (z .rows .sizes) w) g
+      unfolding tileGrid over
+      grid-has e =
+          record {
+            columnsAre = sym (sizes-are .0);
+            heightsAre = sym (ap (take (z .rows .sizes)) (e ∙ rw (rows-front W H s c S long, S .heightIs)) ∙ take-at (g .rowHeights) (drop (rows g) v) (z .rows .sizes) (sym (sizes-are .1)));
+          }

@@ -1,23 +1,21 @@
 // The tile and slice partition block of a picture parameter set (the Rust's parse_partition), read into lent tables.
 ghost use mathlib.Core.Path.{_≡_};
-ghost use lib.ListN.{length};
 ghost use lib.Seq.{sets};
 ghost use Rattle.pps_syntax.specs.PartitionSyntax.{partition};
 ghost use Rattle.pps_tables.specs.Parameters.{slicesBefore, slicesAfter};
 ghost use Rattle.syntax.specs.Syntax.{parse};
 ghost use Rattle.pps_slices.specs.Loop.{slicesLeft};
-ghost use Rattle.pps_partition.specs.PartitionAnswer.{sizesLong, partitionStart, partitionOf, partitionAnswer, partitionLeft};
+ghost use Rattle.pps_partition.specs.PartitionAnswer.{partitionOf, partitionAnswer, partitionLeft};
 use bit_reader::Cursor;
-use bit_reader::guarded::demand;
-use grid_sizes::sizes_in_tables;
 use pps_record::VvcPpsPartition;
-use pps_record::lengths::SPLIT_HEIGHTS;
-use pps_record::lengths::TILE_COLUMN_WIDTHS;
-use pps_record::lengths::TILE_ROW_HEIGHTS;
 use pps_tables::ENTRY_LEN;
 use slicing::SlicingRead;
-use slicing::read_in_grid;
+use slicing::read_slicing;
+use tile_sizes::MAX_TILES;
+use tiles::copy_front;
 use tiles::read_tile_sizes;
+use tiles::spread;
+use tiles::test_axes;
 
 mod slicing;
 mod tiles;
@@ -26,12 +24,6 @@ mod tiles;
 pub struct PartitionRead {
     pub value: VvcPpsPartition,
     pub next: Cursor,
-}
-
-fn tables_long(columns: usize, rows: usize, heights: usize) -> bool
-    ensures { λ r. ⌜ r ≡ sizesLong columns rows heights ⌝ }
-{
-    (columns >= TILE_COLUMN_WIDTHS) & ((rows >= TILE_ROW_HEIGHTS) & (heights >= SPLIT_HEIGHTS))
 }
 
 fn partition_of(ctu: u8, columns: u32, rows: u32, r: SlicingRead) -> PartitionRead
@@ -62,7 +54,8 @@ fn partition_of(ctu: u8, columns: u32, rows: u32, r: SlicingRead) -> PartitionRe
     }
 }
 
-// The partition block of a picture of so many luma samples; 5 where a table that reading looks back into is below its length.
+// The partition block of a picture of so many luma samples. Nothing is read back from the lent tables, so that they may
+// have any length: what has no place in its table is left out.
 pub fn read_partition(
     s: &[u8],
     width: u32,
@@ -73,36 +66,42 @@ pub fn read_partition(
     split_heights: &mut [u32],
     c: Cursor,
 ) -> PartitionRead
-    ensures answer { λ r. ⌜ r ≡ partitionAnswer (parse (partition width height) (now (s .entry)) (partitionStart (length (now («tile_column_widths» .entry))) (length (now («tile_row_heights» .entry))) (length (now («split_heights» .entry))) c)) ⌝ }
-    ensures columns { λ r. ⌜ now («tile_column_widths» .exit) ≡ sets (now («tile_column_widths» .entry)) 0 (parse (partition width height) (now (s .entry)) (partitionStart (length (now («tile_column_widths» .entry))) (length (now («tile_row_heights» .entry))) (length (now («split_heights» .entry))) c) .value .«pps_tile_column_width_minus1») ⌝ }
-    ensures rows { λ r. ⌜ now («tile_row_heights» .exit) ≡ sets (now («tile_row_heights» .entry)) 0 (parse (partition width height) (now (s .entry)) (partitionStart (length (now («tile_column_widths» .entry))) (length (now («tile_row_heights» .entry))) (length (now («split_heights» .entry))) c) .value .«pps_tile_row_height_minus1») ⌝ }
-    ensures slices { λ r. ⌜ slicesAfter entries «split_heights» ≡ slicesLeft (slicesBefore entries «split_heights») 0 0 (parse (partition width height) (now (s .entry)) (partitionStart (length (now («tile_column_widths» .entry))) (length (now («tile_row_heights» .entry))) (length (now («split_heights» .entry))) c) .value .rectSlices) (partitionLeft width height (now (s .entry)) (partitionStart (length (now («tile_column_widths» .entry))) (length (now («tile_row_heights» .entry))) (length (now («split_heights» .entry))) c)) ⌝ }
+    ensures answer { λ r. ⌜ r ≡ partitionAnswer (parse (partition width height) (now (s .entry)) c) ⌝ }
+    ensures columns { λ _.
+        let block = parse (partition width height) (now (s .entry)) c .value in
+        ⌜ now («tile_column_widths» .exit)
+        ≡ sets (now («tile_column_widths» .entry)) 0 (block .«pps_tile_column_width_minus1») ⌝ }
+    ensures rows { λ _.
+        let block = parse (partition width height) (now (s .entry)) c .value in
+        ⌜ now («tile_row_heights» .exit)
+        ≡ sets (now («tile_row_heights» .entry)) 0 (block .«pps_tile_row_height_minus1») ⌝ }
+    ensures slices { λ _.
+        let block = parse (partition width height) (now (s .entry)) c .value in
+        let left = partitionLeft width height (now (s .entry)) c in
+        ⌜ slicesAfter entries «split_heights»
+        ≡ slicesLeft (slicesBefore entries «split_heights») 0 0 (block .rectSlices) left ⌝ }
 {
-    let long = tables_long(
-        tile_column_widths.len(),
-        tile_row_heights.len(),
-        split_heights.len(),
-    );
-    let start = demand(long, 5, c);
-    let sizes = read_tile_sizes(
+    let mut row_heights = [0u32; MAX_TILES as usize];
+    let sizes = read_tile_sizes(s, width, height, tile_column_widths, &mut row_heights, c);
+    let columns = sizes.columns;
+    let rows = sizes.rows;
+    copy_front(&row_heights, rows.count, tile_row_heights);
+    let next = test_axes(columns, rows);
+    if next.refused != 0 {
+        return PartitionRead {
+            value: VvcPpsPartition::absent(),
+            next,
+        };
+    }
+    spread(&mut row_heights, rows.count, rows.uniform, sizes.pic_height);
+    let num_tile_rows = rows.sizes as usize;
+    let slicing = read_slicing(
         s,
-        width,
-        height,
-        tile_column_widths,
-        tile_row_heights,
-        start,
+        columns.sizes as u8,
+        &row_heights[..num_tile_rows],
+        entries,
+        split_heights,
+        next,
     );
-    let answer = sizes_in_tables(
-        width,
-        height,
-        sizes.ctu,
-        tile_column_widths,
-        sizes.columns,
-        tile_row_heights,
-        sizes.rows,
-    );
-    let tested = demand(answer.refused == 0, answer.refused, sizes.next);
-    let grid = answer.sizes;
-    let slicing = read_in_grid(s, grid, entries, split_heights, tested);
-    partition_of(sizes.ctu, sizes.columns, sizes.rows, slicing)
+    partition_of(sizes.ctu, columns.count, rows.count, slicing)
 }

@@ -1,22 +1,20 @@
-// The partition block behind its grid: the flags that say how slices are coded, the slices, and the last flag (H.266 7.3.2.5).
-ghost use mathlib.Core.Path.{_≡_};
-ghost use mathlib.Core.Bool.{true};
+// The partition block behind its grid (H.266 7.3.2.5): the flags that say how slices are coded, the slices, the last
+// flag.
 ghost use Prim.Native.Nat.{_≤_};
-ghost use lib.ListN.{length};
-ghost use Rattle.partition.specs.Grid.{Grid, gridOf, maxSlices};
+ghost use mathlib.Core.Path.{_≡_};
+ghost use lib.ListN.{length, take};
+ghost use Rattle.partition.specs.Grid.{Grid, maxTiles};
 ghost use Rattle.pps_tables.specs.Parameters.{slicesBefore, slicesAfter};
 ghost use Rattle.syntax.specs.Element.{parsed};
 ghost use Rattle.syntax.specs.Syntax.{parse};
+ghost use Rattle.pps_slices.specs.Grids.{GridHas};
 ghost use Rattle.pps_slices.specs.Held.{SlicesRead};
-ghost use Rattle.tile_sizes.specs.Limits.{withinLimits};
-ghost use Rattle.pps_partition.specs.Answers.{flagsOf, readFlags};
-ghost use Rattle.grid_sizes.specs.Fronts.{GridIs};
 ghost use Rattle.pps_syntax.specs.PartitionSyntax.{several};
+ghost use Rattle.pps_partition.specs.Answers.{flagsOf, readFlags};
 ghost use Rattle.pps_partition.specs.SliceFlags.{sliceFlags};
 ghost use Rattle.pps_partition.specs.Slicing.{Sliced, slicesIf, leftIf};
 use bit_reader::Cursor;
 use bit_reader::guarded::flag_or;
-use grid_sizes::GridSizes;
 use pps_fields::fields::ue_at_most;
 use pps_slices::RectSlicesRead;
 use pps_slices::read_rect_slices;
@@ -57,7 +55,7 @@ pub fn read_flags(s: &[u8], several: bool, c: Cursor) -> SliceFlagsRead
 pub fn read_coded_slices(
     s: &[u8],
     coded: bool,
-    column_widths: &[u32],
+    num_tile_columns: u8,
     row_heights: &[u32],
     deltas_coded: bool,
     n: u32,
@@ -65,13 +63,17 @@ pub fn read_coded_slices(
     split_heights: &mut [u32],
     c: Cursor,
 ) -> RectSlicesRead
-    ensures { λ r. ⌜ SlicesRead (slicesIf coded (now («column_widths» .entry)) (now («row_heights» .entry)) «deltas_coded» n (length (now («split_heights» .entry))) (now (s .entry)) c) (leftIf coded (now («column_widths» .entry)) (now («row_heights» .entry)) «deltas_coded» n (length (now («split_heights» .entry))) (now (s .entry)) c) (slicesBefore entries «split_heights») (slicesAfter entries «split_heights») (r .count) (r .next) ⌝ }
+    ensures { λ r.
+        ⌜ ((g : Grid) → GridHas «num_tile_columns» (take maxTiles (now («row_heights» .entry))) g
+        → SlicesRead (slicesIf coded g «deltas_coded» n .read (now (s .entry)) c)
+        (leftIf coded g «deltas_coded» n (now (s .entry)) c)
+        (slicesBefore entries «split_heights») (slicesAfter entries «split_heights») (r .count) (r .next)) ⌝ }
 {
     if coded {
         let last = SliceIdx(n);
         return read_rect_slices(
             s,
-            column_widths,
+            num_tile_columns,
             row_heights,
             deltas_coded,
             last,
@@ -95,25 +97,29 @@ pub struct SlicingRead {
     pub next: Cursor,
 }
 
-// All that stands behind the grid, whose column widths and row heights are lent.
+// All that stands behind the grid, which has so many columns and these row heights.
 pub fn read_slicing(
     s: &[u8],
-    several: bool,
-    column_widths: &[u32],
+    num_tile_columns: u8,
     row_heights: &[u32],
     entries: &mut [[u32; ENTRY_LEN]],
     split_heights: &mut [u32],
     c: Cursor,
 ) -> SlicingRead
-    requires { ⌜ (withinLimits (length (now «column_widths»)) (length (now «row_heights»)) ≡ true) × (maxSlices ≤ length (now «split_heights»)) ⌝ }
-    ensures { λ r. ⌜ Sliced (gridOf (now («column_widths» .entry)) (now («row_heights» .entry))) several (now (s .entry)) c (slicesBefore entries «split_heights») (slicesAfter entries «split_heights») (flagsOf r) (r .«num_rect_slices») (r .«across_slices») (r .next) ⌝ }
+    requires { ⌜ length (now «row_heights») ≤ maxTiles ⌝ }
+    ensures { λ r.
+        ⌜ ((g : Grid) → GridHas «num_tile_columns» (now («row_heights» .entry)) g
+        → Sliced g (several g) (now (s .entry)) c
+        (slicesBefore entries «split_heights») (slicesAfter entries «split_heights») (flagsOf r)
+        (r .«num_rect_slices») (r .«across_slices») (r .next)) ⌝ }
 {
+    let several = row_heights.len() * num_tile_columns as usize > 1;
     let f = read_flags(s, several, c);
     let coded = (f.rect != 0) & (f.single == 0);
     let slices = read_coded_slices(
         s,
         coded,
-        column_widths,
+        num_tile_columns,
         row_heights,
         f.deltas != 0,
         f.num_slices_minus1,
@@ -134,49 +140,4 @@ pub fn read_slicing(
         across_slices: across.value,
         next,
     }
-}
-
-pub fn no_slicing(c: Cursor) -> SlicingRead
-    ensures { λ r. ⌜ r .next ≡ c ⌝ }
-{
-    SlicingRead {
-        across_tiles: 0,
-        rect: 0,
-        single: 0,
-        num_slices_minus1: 0,
-        deltas: 0,
-        num_rect_slices: 0,
-        across_slices: 0,
-        next: c,
-    }
-}
-
-// The same over a grid, which is within its limits unless reading was refused.
-pub fn read_in_grid(
-    s: &[u8],
-    grid: GridSizes,
-    entries: &mut [[u32; ENTRY_LEN]],
-    split_heights: &mut [u32],
-    c: Cursor,
-) -> SlicingRead
-    requires { ⌜ (c .refused ≡ 0 → (withinLimits (grid .«num_tile_columns») (grid .«num_tile_rows») ≡ true) × (maxSlices ≤ length (now «split_heights»))) ⌝ }
-    ensures { λ r. ⌜ ((g : Grid) → (c .refused ≡ 0 → GridIs g grid) → Sliced g (several g) (now (s .entry)) c (slicesBefore entries «split_heights») (slicesAfter entries «split_heights») (flagsOf r) (r .«num_rect_slices») (r .«across_slices») (r .next)) ⌝ }
-{
-    if c.refused != 0 {
-        return no_slicing(c);
-    }
-    let several = grid.num_tile_rows as u64 * grid.num_tile_columns as u64 > 1;
-    let columns = grid.num_tile_columns as usize;
-    let rows = grid.num_tile_rows as usize;
-    let column_widths = grid.column_widths;
-    let row_heights = grid.row_heights;
-    read_slicing(
-        s,
-        several,
-        &column_widths[..columns],
-        &row_heights[..rows],
-        entries,
-        split_heights,
-        c,
-    )
 }

@@ -12,7 +12,7 @@ use Rattle.codes.specs.Symbols.{Symbol, putting, check, check-true, first, firs
 use Rattle.bit_writer.specs.Writing.{Writing, play, withRefusal, feed}
 use Rattle.bit_writer.specs.Played.{played, feed-refusal}
 use Rattle.codes.specs.Symbols as symbols
-use Rattle.partition.specs.Grid.{Grid, columns, rows, maxTileColumns, maxTiles, gridOf}
+use Rattle.partition.specs.Grid.{Grid, columns, rows, maxTileColumns, maxTiles, gridWith}
 use Rattle.partition.specs.Partition.{inCtbs, tileGrid}
 use Rattle.partition.specs.Sizes.{sum, explicitSizes, axisSizes}
 use Rattle.grid_sizes.specs.declared.GridSizes.{GridSizes}
@@ -82,7 +82,7 @@ flags-made several f w {a} {b} {c} {d} {e} p q r s t =
     ∙ ap (λ (x : Writing). playOn x (flagIf (codes f && ltb 1 (f .«pps_num_slices_in_pic_minus1»)) .symbols (f .«pps_tile_idx_delta_present_flag»))) s₄
 
 pub slices-coded : (w : Writing) (ws hs : List ℕ) (on deltas : Bool) (N : ℕ) (rs : List RectSlice) {x : Writing} → withinLimits (length ws) (length hs) ≡ true → on ≡ true → x ≡ playOn w (slicesSymbols ws hs deltas N rs)
-    → x ≡ slicesPut (gridOf ws hs) on deltas N rs w
+    → x ≡ slicesPut (gridWith ws hs) on deltas N rs w
 unfolding slicesPut slicesSymbols orElse
 slices-coded w ws hs on deltas N rs l e h = h ∙ rw (e, check-true (withinLimits (length ws) (length hs)) 13 l)
 
@@ -102,13 +102,13 @@ rest-made g several f rs across w {a} {b} p q r =
 
 -- the fronts of the grid's tables are its sizes
 pub rest-in : (g : Grid) (sizes : GridSizes) (f : SliceFlags) (rs : List RectSlice) (across : ℕ) (w : Writing) {v : Writing} → GridIs g sizes
-    → v ≡ restPut (gridOf (take (sizes .«num_tile_columns») (sizes .«column_widths»)) (take (sizes .«num_tile_rows») (sizes .«row_heights»))) (ltb 1 (sizes .«num_tile_rows» * sizes .«num_tile_columns»)) f rs across w
+    → v ≡ restPut (gridWith (take (sizes .«num_tile_columns») (sizes .«column_widths»)) (take (sizes .«num_tile_rows») (sizes .«row_heights»))) (ltb 1 (sizes .«num_tile_rows» * sizes .«num_tile_columns»)) f rs across w
     → v ≡ restPut g (several g) f rs across w
 rest-in g sizes f rs across w i r =
     let ws = front-is maxTileColumns (g .columnWidths) (sizes .«column_widths») (sizes .«num_tile_columns») (i .columnsAre) (i .widthsAre) in
     let hs = front-is maxTiles (g .rowHeights) (sizes .«row_heights») (sizes .«num_tile_rows») (i .rowsAre) (i .heightsAre) in
     let many : ltb 1 (sizes .«num_tile_rows» * sizes .«num_tile_columns») ≡ several g = rw (i .columnsAre, i .rowsAre) in
-    r ∙ ap₂ (λ (x : Grid) (b : Bool). restPut x b f rs across w) (ap₂ gridOf ws hs) many
+    r ∙ ap₂ (λ (x : Grid) (b : Bool). restPut x b f rs across w) (ap₂ gridWith ws hs) many
 
 module _ (W H : ℕ) (p : VvcPpsPartition) (ws hs : List ℕ) (rs : List RectSlice) (w : Writing) {a b : Writing} {r : SizesAnswer}
     (tilesAre : a ≡ tilesPut W H (p .«pps_log2_ctu_size_minus5») ws hs w) (answerIs : r ≡ gridSizes W H (p .«pps_log2_ctu_size_minus5») ws hs)

@@ -4,7 +4,7 @@ ghost use mathlib.Core.Path.{_≡_};
 ghost use mathlib.Core.Bool.{true};
 ghost use lib.ListN.{length};
 ghost use Rattle.bit_writer.specs.Writing.{sinkOver};
-ghost use Rattle.partition.specs.Grid.{Grid, gridOf};
+ghost use Rattle.partition.specs.Grid.{Grid, gridWith};
 ghost use Rattle.pps_syntax.specs.SliceTables.{slicesFrom};
 ghost use Rattle.pps_tables.specs.Parameters.{slicesBefore};
 ghost use Rattle.tile_sizes.specs.Limits.{withinLimits};
@@ -51,7 +51,7 @@ fn put_coded_slices(
 ) -> Sink
     requires { ⌜ withinLimits (length (now «column_widths»)) (length (now «row_heights»)) ≡ true ⌝ }
     ensures { λ r.
-        let g = gridOf (now («column_widths» .entry)) (now («row_heights» .entry)) in
+        let g = gridWith (now («column_widths» .entry)) (now («row_heights» .entry)) in
         let slices = slicesFrom (slicesBefore entries «split_heights») 0 0 count in
         ⌜ sinkOver r (now (out .exit))
         ≡ slicesPut g coded «deltas_coded» n slices (sinkOver w (now (out .entry))) ⌝ }
@@ -86,7 +86,7 @@ fn put_slicing(
 ) -> Sink
     requires { ⌜ withinLimits (length (now «column_widths»)) (length (now «row_heights»)) ≡ true ⌝ }
     ensures { λ r.
-        let g = gridOf (now («column_widths» .entry)) (now («row_heights» .entry)) in
+        let g = gridWith (now («column_widths» .entry)) (now («row_heights» .entry)) in
         let slices = slicesFrom (slicesBefore entries «split_heights») 0 0 (p .«num_rect_slices») in
         ⌜ sinkOver r (now (out .exit))
         ≡ restPut g several (flagsOf p) slices (p .«pps_loop_filter_across_slices_enabled_flag»)

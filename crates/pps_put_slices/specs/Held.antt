@@ -11,7 +11,7 @@ use borrow.Author.Tests.{lt-ltb, le-ltb, le-leb, lt-leb, leb-true, leb-false}
 use Rattle.codes.specs.Symbols.{Symbol, check, check-true}
 use Rattle.bit_writer.specs.Writing.{Writing, play}
 use Rattle.partition.specs.Entry.{Position, firstPosition}
-use Rattle.partition.specs.Grid.{Grid, gridOf}
+use Rattle.partition.specs.Grid.{Grid, gridWith}
 use Rattle.partition.specs.Walk.{onward}
 use Rattle.syntax.specs.Elements.{orElse}
 use Rattle.syntax.specs.Lists.{walk}
@@ -28,7 +28,7 @@ use Rattle.pps_put_slices.specs.EntryPut.{EntryPut}
 
 -- the slices of a picture with this grid; 13 for a grid over its limits
 unfoldable pub slicesSymbols : List ℕ → List ℕ → Bool → ℕ → List RectSlice → List Symbol
-slicesSymbols ws hs deltas N rs = check (withinLimits (length ws) (length hs)) 13 ++ rectSlices (gridOf ws hs) deltas N firstPosition .symbols rs
+slicesSymbols ws hs deltas N rs = check (withinLimits (length ws) (length hs)) 13 ++ rectSlices (gridWith ws hs) deltas N firstPosition .symbols rs
 
 module _ (g : Grid) (deltas : Bool) (N : ℕ) where
   -- ---- the turns of the loop
@@ -164,7 +164,7 @@ module _ {g : Grid} {deltas : Bool} {N : ℕ} {t : SliceTables} {count : ℕ} {w
 
 -- ---- the start
 module _ (ws hs : List ℕ) (deltas : Bool) (N : ℕ) (t : SliceTables) (count : ℕ) (w : Writing) {within : Bool} {a : Writing} (e : within ≡ withinLimits (length ws) (length hs)) (h : a ≡ play w (check within 13)) where
-  pub slices-made : {v : Writing} → v ≡ wholeLoop (gridOf ws hs) deltas N t count a → v ≡ playOn w (slicesSymbols ws hs deltas N (slicesFrom t 0 0 count))
+  pub slices-made : {v : Writing} → v ≡ wholeLoop (gridWith ws hs) deltas N t count a → v ≡ playOn w (slicesSymbols ws hs deltas N (slicesFrom t 0 0 count))
   unfolding slicesSymbols
   slices-made q = on-then w _ _ (tested w 13 e h) q
 

@@ -8,10 +8,9 @@ use lib.ListN.{length}
 use lib.Seq.{sets}
 use borrow.Author.Tests.{eqb-true}
 use Rattle.bit_reader.specs.declared.Cursor.{Cursor}
-use Rattle.bit_reader.specs.Laws.{demanded-true}
 use Rattle.pps_partition.specs.declared.PartitionRead.{PartitionRead}
 use Rattle.pps_partition.specs.NothingLeft.{nothing-left}
-use Rattle.pps_partition.specs.PartitionAnswer.{sizesLong, partitionStart, partitionAnswer, partitionLeft}
+use Rattle.pps_partition.specs.PartitionAnswer.{partitionAnswer, partitionLeft}
 use Rattle.pps_slices.specs.Loop.{slicesLeft, left-none}
 use Rattle.pps_syntax.specs.PartitionSyntax.{PartitionBlock, partition, partitionElement}
 use Rattle.pps_syntax.specs.Record.{partitionRecord}
@@ -67,18 +66,12 @@ module _ (W H : ℕ) (s : List ℕ) (c : Cursor) where
         })
     puts ce re te false e l = absurd (let z : _≡_ {A = ℕ} 0 1 = sym (ap (λ (p : Parsed (List PartitionBlock)). length (p .value)) (of-one false e)) ∙ l in omega arith)
 
-    -- where tables are long enough
-    pub block-made : (on : Bool) (n : ℕ) (r : PartitionRead) → on ≡ true → sizesLong (length c₀) (length r₀) n ≡ true
-        → (r ≡ partitionAnswer (parse (partition W H) s (partitionStart (length c₀) (length r₀) n c)))
-        × ((c₁ ≡ sets c₀ 0 (parse (partition W H) s (partitionStart (length c₀) (length r₀) n c) .value .«pps_tile_column_width_minus1»))
-        × ((r₁ ≡ sets r₀ 0 (parse (partition W H) s (partitionStart (length c₀) (length r₀) n c) .value .«pps_tile_row_height_minus1»))
-        × (t₁ ≡ slicesLeft t₀ 0 0 (parse (partition W H) s (partitionStart (length c₀) (length r₀) n c) .value .rectSlices) (partitionLeft W H s (partitionStart (length c₀) (length r₀) n c)))))
+    pub block-made : (on : Bool) (r : PartitionRead) → on ≡ true
+        → (r ≡ partitionAnswer one)
+        × ((c₁ ≡ sets c₀ 0 (one .value .«pps_tile_column_width_minus1»))
+        × ((r₁ ≡ sets r₀ 0 (one .value .«pps_tile_row_height_minus1»)) × (t₁ ≡ slicesLeft t₀ 0 0 (one .value .rectSlices) (partitionLeft W H s c))))
         → (r ≡ blockAnswer (blocksRead on W H s c)) × (length (blocksRead on W H s c .value) ≡ oneIf on → BlocksPut (blocksRead on W H s c .value) c₀ c₁ r₀ r₁ t₀ t₁)
-    unfolding partitionStart
-    block-made on n r o long p =
-        let start : partitionStart (length c₀) (length r₀) n c ≡ c = demanded-true (sizesLong (length c₀) (length r₀) n) 5 c long in
-        let q = rw start at p in
-        rw o (q .0 ∙ answer-is, λ l. puts (q .1 .0) (q .1 .1 .0) (q .1 .1 .1) (eqb (one .next .refused) 0) refl l)
+    block-made on r o q = rw o (q .0 ∙ answer-is, λ l. puts (q .1 .0) (q .1 .1 .0) (q .1 .1 .1) (eqb (one .next .refused) 0) refl l)
 
 -- without a block nothing is read
 pub no-block : (on : Bool) (W H : ℕ) (s : List ℕ) (c : Cursor) (columns rows : List ℕ) (t : SliceTables) → on ≡ false

@@ -8,8 +8,7 @@ use lib.Dec.{leb}
 use lib.ListN.{length}
 use borrow.Author.Tests.{leb-true}
 use Rattle.tables.specs.Tables.{blank-length, sets-over}
-use Rattle.partition.specs.Grid.{maxTileColumns, maxTiles, maxSlicesMinus1, maxSlices}
-use Rattle.pps_partition.specs.PartitionAnswer.{sizesLong}
+use Rattle.partition.specs.Grid.{maxTileColumns, maxTiles}
 use Rattle.pps_syntax.specs.FromRecord.{Lent, lengthsFit, tablesLong}
 use Rattle.pps_syntax.specs.ListsFit.{ListsFit, read-lists-fit}
 use Rattle.pps_syntax.specs.PartitionSyntax.{PartitionBlock}
@@ -22,26 +21,21 @@ use Rattle.pps_answer.specs.declared.PpsRead.{PpsRead}
 use Rattle.pps_answer.specs.Answers.{isAccepted, answerOf}
 use Rattle.pps_answer.specs.Lending.{columnsOf, rowsOf, zeros, clearedSlices, cleared, filled, putLists, afterFields}
 
-pub record Lengths (ids columns rows splitHeights : ℕ) : Type 0 where
+record Lengths (ids columns rows : ℕ) : Type 0 where
   pub idsLong : maxSubpics ≤ ids
   pub columnsLong : maxTileColumns ≤ columns
   pub rowsLong : maxTiles ≤ rows
-  pub splitsLong : maxSlices ≤ splitHeights
-  pub long : sizesLong columns rows splitHeights ≡ true
 
-pub lengths : (a b c d e : ℕ) → lengthsFit a b c d e ≡ true → Lengths a b c e
-unfolding lengthsFit sizesLong
+lengths : (a b c d e : ℕ) → lengthsFit a b c d e ≡ true → Lengths a b c
+unfolding lengthsFit
 lengths a b c d e z =
     let p = and-parts (leb maxSubpics a) _ z in
     let q = and-parts (leb maxTileColumns b) _ (p .1) in
     let r = and-parts (leb maxTiles c) _ (q .1) in
-    let s = and-parts (leb maxSlicesMinus1 d) (leb maxSlices e) (r .1) in
     record {
       idsLong = leb-true maxSubpics a (p .0);
       columnsLong = leb-true maxTileColumns b (q .0);
       rowsLong = leb-true maxTiles c (r .0);
-      splitsLong = leb-true maxSlices e (s .1);
-      long = rw (q .0, r .0, s .1);
     }
 
 -- ---- tables of the same lengths

@@ -1,8 +1,6 @@
 // The RBSP of a set (H.266 7.3.2.5), read into the lent tables.
-ghost use mathlib.Core.Bool.{true};
 ghost use mathlib.Core.Path.{_≡_};
 ghost use lib.ListN.{length};
-ghost use Rattle.pps_partition.specs.PartitionAnswer.{sizesLong};
 ghost use Rattle.pps_syntax.specs.Rbsp.{ReadSet, accepted, readRbsp};
 ghost use Rattle.pps_tables.specs.Parameters.{slicesBefore, slicesAfter, before, after};
 ghost use Rattle.syntax.specs.Elements.{oneIf};
@@ -32,8 +30,6 @@ fn read_block(
     split_heights: &mut [u32],
     c: Cursor,
 ) -> PartitionRead
-    requires { ⌜ sizesLong (length (now «tile_column_widths»)) (length (now «tile_row_heights»))
-        (length (now «split_heights»)) ≡ true ⌝ }
     ensures answer { λ r. ⌜ r ≡ blockAnswer (blocksRead partitioned width height (now (s .entry)) c) ⌝ }
     ensures tables { λ r.
         ⌜ (let blocks = blocksRead partitioned width height (now (s .entry)) c .value in
@@ -69,8 +65,6 @@ pub fn read_rbsp(
     entries: &mut [[u32; ENTRY_LEN]],
     split_heights: &mut [u32],
 ) -> PpsRead
-    requires { ⌜ sizesLong (length (now «tile_column_widths»)) (length (now «tile_row_heights»))
-        (length (now «split_heights»)) ≡ true ⌝ }
     ensures answer { λ r. ⌜ r ≡ answerOf (readRbsp (now (s .entry))) ⌝ }
     ensures tables { λ r.
         ⌜ ((a : ReadSet) → readRbsp (now (s .entry)) ≡ accepted a

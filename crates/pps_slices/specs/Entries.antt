@@ -24,7 +24,7 @@ use Rattle.pps_syntax.specs.SliceSyntax.{RectSlice, entryOf, rectSlice, sliceMo
 use Rattle.pps_syntax.specs.SliceTables.{bitsOfDelta}
 use Rattle.pps_slices.specs.declared.parts.MoveRead.{MoveRead}
 use Rattle.pps_slices.specs.declared.entry.RectSliceRead.{RectSliceRead}
-use Rattle.pps_slices.specs.EntryReads.{widthRead, heightRead, heightsRead, lastOf, heightsTested, deltaRead}
+use Rattle.pps_slices.specs.EntryReads.{widthRead, heightRead, heightsRead, lastOf, SplitIs, deltaRead}
 use Rattle.pps_slices.specs.EntrySteps.{unsplit-none, last-same, width-step, height-step, split-step, move-step}
 use Rattle.pps_slices.specs.Moves.{Moved}
 
@@ -54,12 +54,6 @@ pub record EntryRead (g : Grid) (deltas : Bool) (N : ℕ) (k : Position) (s : Li
   pub follows : r .next .refused ≡ 0 → Follows N (r .slice .0) (r .tile .0) (onward g deltas k (entryOf (sliceOf r heights)))
 
 -- ---- how code comes to it
--- what the explicit slice heights give
-abbrev pub SplitIs : Bool → ℕ → ℕ → ℕ → List ℕ → Cursor → ℕ → List ℕ → List ℕ → ℕ → ℕ → Cursor → Type 0
-SplitIs split row N i s c from t u count last next =
-    let heights : Parsed (List ℕ) = heightsRead split row N i s c in
-    (count ≡ length (heights .value)) × ((last ≡ min (lastOf i row (heights .value)) N) × ((next ≡ heightsTested row N i heights) × (u ≡ sets t from (heights .value))))
-
 held-more : (a N : ℕ) → ltb (min a N) N ≡ ltb a N
 held-more a N = cases (ltb a N) refl
   where
@@ -102,7 +96,7 @@ module _ (g : Grid) (deltas : Bool) (N : ℕ) (k : Position) (s : List ℕ) (c :
       let split = splitCoded (w .value) (h .value) row in
       let heights : Parsed (List ℕ) = heightsRead split row N (k .slice) s (h .next) in
       let only = unsplit-none split row N (k .slice) s (h .next) in
-      let more : ltb last N ≡ ltb (lastOf (k .slice) row (heights .value)) N = ap (λ (n : ℕ). ltb n N) (hs .1 .0) ∙ held-more (lastOf (k .slice) row (heights .value)) N in
+      let more : ltb last N ≡ ltb (lastOf (k .slice) row (heights .value)) N = ap (λ (n : ℕ). ltb n N) (hs .lastIs) ∙ held-more (lastOf (k .slice) row (heights .value)) N in
       let r : RectSliceRead =
       record {
         width = w .value;
@@ -122,14 +116,14 @@ module _ (g : Grid) (deltas : Bool) (N : ℕ) (k : Position) (s : List ℕ) (c :
         whole =
             rw (hm .coded, hm .delta)
             (move-step g deltas N k s p (w .value) (h .value) (oneIf split) (heights .value) (ltb last N) (deltaRead (deltas && ltb last N) s p) (m .next) only more refl (hm .next)
-            ∙ ap (λ (d : Cursor). parse (sliceMove g deltas N k (w .value) (h .value) (oneIf split) (heights .value)) s d) (hs .1 .1 .0)
+            ∙ ap (λ (d : Cursor). parse (sliceMove g deltas N k (w .value) (h .value) (oneIf split) (heights .value)) s d) (hs .nextIs)
             ∙ split-step g deltas N k s (h .next) (w .value) (h .value)
             ∙ height-step g deltas N k s (w .next) (w .value) h hh
             ∙ width-step g deltas N k s c w hw);
-        count = hs .0;
-        table = hs .1 .1 .1;
+        count = hs .countIs;
+        table = hs .table;
         moves = (omega arith, omega arith);
-        follows = λ z. record { sliceIs = ha ∙ rw (hs .1 .0, next) (omega arith); tileIs = λ l. hm .tile z (more ∙ lt-ltb (lastOf (k .slice) row (heights .value)) N (omega arith)) };
+        follows = λ z. record { sliceIs = ha ∙ rw (hs .lastIs, next) (omega arith); tileIs = λ l. hm .tile z (more ∙ lt-ltb (lastOf (k .slice) row (heights .value)) N (omega arith)) };
       }
 
 -- the same over the numbers that the loop goes by

@@ -1,9 +1,13 @@
--- What the parts of an entry of the slice loop give in reading (H.266 7.3.2.5), over plain numbers: the columns and rows of the grid, the tile, its row's height.
-use Prim.Native.Nat.{ℕ, _+_, _-_}
+-- What the parts of an entry of the slice loop give in reading (H.266 7.3.2.5), over plain numbers: the columns and
+-- rows of the grid, the tile, its row's height.
+use Prim.Native.Nat.{ℕ, _+_, _-_, min}
+use mathlib.Core.Path.{_≡_}
 use mathlib.Core.List.{List}
 use mathlib.Core.Bool.{Bool, not, _&&_, _||_}
 use lib.Dec.{ltb, leb}
 use lib.IntN.{pos}
+use lib.ListN.{length}
+use lib.Seq.{sets}
 use Rattle.bit_reader.specs.declared.Cursor.{Cursor}
 use Rattle.bit_reader.specs.declared.BitsRead.{BitsRead}
 use Rattle.bit_reader.specs.declared.SignedRead.{SignedRead}
@@ -43,6 +47,14 @@ lastOf i row heights = i + numSlicesInTile heights row - 1
 unfoldable pub heightsTested : ℕ → ℕ → ℕ → Parsed (List ℕ) → Cursor
 heightsTested row N i r =
     demanded (leb (lastOf i row (r .value)) N) 17 (demanded (leb (sum (explicitSizes (r .value))) row) 16 (r .next))
+
+-- the explicit slice heights of an entry, those stored in a table, with the index of the last slice, held to N
+pub record SplitIs (split : Bool) (row N i : ℕ) (s : List ℕ) (c : Cursor) (from : ℕ) (t u : List ℕ) (count last : ℕ)
+    (next : Cursor) : Type 0 where
+  pub countIs : count ≡ length (heightsRead split row N i s c .value)
+  pub lastIs : last ≡ min (lastOf i row (heightsRead split row N i s c .value)) N
+  pub nextIs : next ≡ heightsTested row N i (heightsRead split row N i s c)
+  pub table : u ≡ sets t from (heightsRead split row N i s c .value)
 
 -- pps_tile_idx_delta_val, where it is coded
 unfoldable pub deltaRead : Bool → List ℕ → Cursor → SignedRead

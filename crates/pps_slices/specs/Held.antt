@@ -1,5 +1,6 @@
--- What holds at each turn of the slice loop over the tables: what is left to be read and put, with what is there, makes the whole.
-use Prim.Native.Nat.{ℕ, suc, _+_, _-_, _*_, _≤_, _<_}
+-- What holds at each turn of the slice loop over the tables: what is left to be read and put, with what is there, makes
+-- the whole.
+use Prim.Native.Nat.{ℕ, suc, _+_, _-_, _≤_, _<_}
 use mathlib.Core.Path.{_≡_, refl, sym, ap, subst, _∙_}
 use mathlib.Core.List.{List, [], _++_, map}
 use mathlib.Core.Bool.{Bool, true}
@@ -11,7 +12,7 @@ use lib.Seq.{sets, length-sets}
 use borrow.Author.Tests.{lt-ltb, le-ltb}
 use Rattle.bit_reader.specs.declared.Cursor.{Cursor}
 use Rattle.partition.specs.Entry.{Position, firstPosition, nextPosition}
-use Rattle.partition.specs.Grid.{Grid, gridOf}
+use Rattle.partition.specs.Grid.{Grid}
 use Rattle.partition.specs.Walk.{onward}
 use Rattle.syntax.specs.Element.{Parsed, parsed}
 use Rattle.syntax.specs.Syntax.{parse}
@@ -20,8 +21,6 @@ use Rattle.pps_syntax.specs.SliceTables.{SliceTables, sliceTables, rowOf, allSp
 use Rattle.pps_slices.specs.declared.entry.RectSliceRead.{RectSliceRead}
 use Rattle.pps_slices.specs.Entries.{sliceOf, readRow, EntryRead}
 use Rattle.slice_loop.specs.Loop.{position, Follows}
-use Rattle.pps_slices.specs.Limits.{loopStart, slicesFor, refusedFor, Started}
-use Rattle.pps_slices.specs.Stuck.{slices-stuck, refused-stuck}
 use Rattle.pps_slices.specs.Loop.{slicesLeft, putSlice, left-more, refusedFrom, refusedHeights, turns, turns-end, turns-more, turns-stop}
 
 -- all entries are read and in their places
@@ -29,6 +28,12 @@ pub record SlicesRead (whole : Parsed (List RectSlice)) (left : List ℕ) (befor
   pub nextIs : next ≡ whole .next
   pub counted : count ≡ length (whole .value)
   pub tables : after ≡ slicesLeft before 0 0 (whole .value) left
+
+-- those of the slice loop
+abbrev pub LoopRead : Grid → Bool → ℕ → List ℕ → Cursor → SliceTables → SliceTables → ℕ → Cursor → Type 0
+LoopRead g deltas N s c before after count next =
+    SlicesRead (rectSlices g deltas N firstPosition .read s c) (refusedHeights g deltas N firstPosition s c) before after
+    count next
 
 -- as long as they were
 pub record SameLengths (t u : SliceTables) : Type 0 where
@@ -184,24 +189,3 @@ entry-length {t = t} {from = from} H E = ap length (E .table) ∙ length-sets (t
 pub held-small : {g : Grid} {deltas : Bool} {N : ℕ} {s : List ℕ} {c₀ : Cursor} {t₀ t : SliceTables} {c : Cursor} {slice tile preceding i from : ℕ}
     → Held g deltas N s c₀ t₀ t c slice tile preceding i from → slice < N → (from < N) × (i < N)
 held-small H go = (omega (arith, H .room, H .follows .sliceIs), omega (arith, H .few, H .follows .sliceIs))
-
--- what reading an entry asks for
-pub held-ready : {g : Grid} {deltas : Bool} {N : ℕ} {s : List ℕ} {c₀ : Cursor} {t₀ t : SliceTables} {c : Cursor} {slice tile preceding i from : ℕ} {columns rows : ℕ}
-    → Held g deltas N s c₀ t₀ t c slice tile preceding i from → slice < N → Started columns rows N (length (t₀ .splitHeights))
-    → (from ≤ slice) × (slice ≤ N) × (N < length (t .splitHeights)) × (rows * columns ≤ 4294967295)
-held-ready H go st = (omega (arith, H .room, H .follows .sliceIs), omega arith, omega (arith, held-lengths H .splitHeights, st .roomy), omega (arith, st .limited .tilesFit))
-
-module _ (ws hs : List ℕ) (deltas : Bool) (N places : ℕ) (s : List ℕ) (c : Cursor) {d : Cursor} (e : d ≡ loopStart (length ws) (length hs) N places c) where
-  pub slices-made : {t u : SliceTables} {n : ℕ} {next : Cursor}
-      → SlicesRead (rectSlices (gridOf ws hs) deltas N firstPosition .read s d) (refusedHeights (gridOf ws hs) deltas N firstPosition s d) t u n next
-      → SlicesRead (slicesFor ws hs deltas N places s c) (refusedFor ws hs deltas N places s c) t u n next
-  unfolding slicesFor refusedFor
-  slices-made {t} {u} {n} {next} x =
-      subst (λ (x : Cursor). SlicesRead (rectSlices (gridOf ws hs) deltas N firstPosition .read s x) (refusedHeights (gridOf ws hs) deltas N firstPosition s x) t u n next) e x
-
-  -- a start that is refused
-  pub slices-none : (t : SliceTables) → (d .refused ≡ 0 → ⊥) → SlicesRead (slicesFor ws hs deltas N places s c) (refusedFor ws hs deltas N places s c) t t 0 d
-  unfolding slicesLeft allSplitHeights
-  slices-none t h =
-      let none = slices-stuck (gridOf ws hs) deltas N s d h firstPosition in
-      slices-made (record { nextIs = rw none; counted = rw none; tables = rw (none, refused-stuck (gridOf ws hs) deltas N s d h firstPosition) })

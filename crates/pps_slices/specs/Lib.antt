@@ -5,6 +5,6 @@ pub mod EntryMade
 pub mod Moves
 pub mod Entries
 pub mod Loop
-pub mod Limits
+pub mod Grids
 pub mod Stuck
 pub mod Held

@@ -1,4 +1,5 @@
--- The slice loop (H.266 7.3.2.5), read into the lent tables: entry i goes to row i, its explicit slice heights behind those of the entries before it.
+-- The slice loop (H.266 7.3.2.5), read into the lent tables: entry i goes to row i, its explicit slice heights behind
+-- those of the entries before it.
 use Prim.Native.Nat.{ℕ, zero, suc, _+_, _-_}
 use mathlib.Core.Path.{_≡_, refl}
 use mathlib.Core.List.{List, [], _∷_, _++_, map, append-assoc, append-nil}
@@ -20,7 +21,8 @@ use Rattle.pps_syntax.specs.SliceSyntax.{RectSlice, entryOf, rectSlice, rectSli
 use Rattle.pps_syntax.specs.SliceTables.{SliceTables, rowOf, allSplitHeights, putSlices}
 
 -- ---- the tables
--- The tables after entries were put from place i on, their split heights from place j on, and behind these heights `left`.
+-- The tables after entries were put from place i on, their split heights from place j on, and behind these heights
+-- `left`.
 unfoldable pub slicesLeft : SliceTables → ℕ → ℕ → List RectSlice → List ℕ → SliceTables
 slicesLeft t i j rs left = record { entries = sets (t .entries) i (map rowOf rs); splitHeights = sets (t .splitHeights) j (allSplitHeights rs ++ left) }
 
@@ -42,7 +44,8 @@ left-more t i j r rs left =
 
 -- ---- the loop
 module _ (g : Grid) (deltas : Bool) (N : ℕ) where
-  -- The explicit slice heights of the entry at which reading is refused; they are in the table before the entry's later tests.
+  -- The explicit slice heights of the entry at which reading is refused; they are in the table before the entry's later
+  -- tests.
   unfoldable pub refusedFrom : ℕ → Position → List ℕ → Cursor → List ℕ
   refusedFrom zero k s c = []
   refusedFrom (suc fuel) k s c =

@@ -1,6 +1,5 @@
 // One entry of the slice loop (H.266 7.3.2.5).
-ghost use Prim.Native.Nat.{_*_, _≤_, _<_};
-ghost use lib.ListN.{length};
+ghost use Prim.Native.Nat.{_*_, _≤_};
 ghost use Rattle.partition.specs.Grid.{Grid};
 ghost use Rattle.pps_slices.specs.Entries.{EntryRead};
 ghost use Rattle.slice_loop.specs.Loop.{LoopOver, position};
@@ -15,7 +14,8 @@ use slice_loop::SliceIdx;
 use slice_loop::SliceLoopCtx;
 use slice_loop::TileIdx;
 
-// An entry, but for its explicit slice heights, which are in their table; where the next one stands; and the cursor behind it.
+// An entry, but for its explicit slice heights, which are in their table; where the next one stands; and the cursor
+// behind it.
 pub struct RectSliceRead {
     pub width: u32,
     pub height: u32,
@@ -40,8 +40,13 @@ pub fn read_rect_slice(
     from: usize,
     c: Cursor,
 ) -> RectSliceRead
-    requires { ⌜ (from ≤ slice .0) × (slice .0 ≤ ctx .«num_slices_minus1» .0) × (ctx .«num_slices_minus1» .0 < length (now «split_heights»)) × (ctx .«num_tile_rows» * ctx .«num_tile_columns» ≤ 4294967295) ⌝ }
-    ensures { λ r. ⌜ ((g : Grid) → LoopOver ctx (now («row_heights» .entry)) g → EntryRead g (ctx .«delta_present») (ctx .«num_slices_minus1» .0) (position (slice .0) (tile .0) «preceding_height») (now (s .entry)) c from (now («split_heights» .entry)) (now («split_heights» .exit)) r) ⌝ }
+    requires { ⌜ (slice .0 ≤ ctx .«num_slices_minus1» .0)
+        × (ctx .«num_tile_rows» * ctx .«num_tile_columns» ≤ 4294967295) ⌝ }
+    ensures { λ r.
+        let k = position (slice .0) (tile .0) «preceding_height» in
+        ⌜ ((g : Grid) → LoopOver ctx (now («row_heights» .entry)) g
+        → EntryRead g (ctx .«delta_present») (ctx .«num_slices_minus1» .0) k (now (s .entry)) c from
+        (now («split_heights» .entry)) (now («split_heights» .exit)) r) ⌝ }
 {
     let width = read_width(s, ctx, tile, c);
     let height = read_height(s, ctx, tile, preceding_height, width.next);

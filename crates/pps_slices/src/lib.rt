@@ -1,18 +1,22 @@
-// The rectangular slices of a picture parameter set, read into lent tables (the slice loop of the Rust's parse_partition).
+// The rectangular slices of a picture parameter set, read into lent tables: the slice loop of the Rust's
+// parse_partition.
 ghost use mathlib.Core.Path.{_≡_};
-ghost use lib.ListN.{length};
+ghost use Prim.Native.Nat.{_*_, _≤_};
+ghost use lib.ListN.{length, take};
+ghost use Rattle.partition.specs.Grid.{Grid, maxTiles};
 ghost use Rattle.pps_tables.specs.Parameters.{slicesBefore, slicesAfter};
-ghost use Rattle.pps_slices.specs.Held.{SlicesRead};
-ghost use Rattle.pps_slices.specs.Limits.{loopStart, slicesFor, refusedFor};
+ghost use Rattle.slice_loop.specs.Loop.{LoopOver};
+ghost use Rattle.pps_slices.specs.Held.{LoopRead};
+ghost use Rattle.pps_slices.specs.Grids.{GridHas};
 use bit_reader::Cursor;
-use bit_reader::guarded::demand;
 use entry::read_rect_slice;
 use pps_tables::ENTRY_LEN;
 use put::put_slice;
 use slice_loop::SliceIdx;
 use slice_loop::SliceLoopCtx;
 use slice_loop::TileIdx;
-use tile_sizes::within_limits;
+use tables::places::at_most;
+use tile_sizes::MAX_TILES;
 
 mod entry;
 mod parts;
@@ -24,48 +28,25 @@ pub struct RectSlicesRead {
     pub next: Cursor,
 }
 
-fn loop_start(columns: usize, rows: usize, n: SliceIdx, places: usize, c: Cursor) -> Cursor
-    ensures { λ r. ⌜ r ≡ loopStart columns rows (n .0) places c ⌝ }
-{
-    let within = within_limits(columns, rows);
-    let fits = demand(within, 13, c);
-    let last = n.0 as usize;
-    demand(last < places, 5, fits)
-}
-
-// The slice loop: from tile 0 and slice 0, while the slice index is below N. The explicit slice heights of an entry stay in their table where the entry is refused.
-pub fn read_rect_slices(
+// The slice loop: from tile 0 and slice 0, while the slice index is below N. The explicit slice heights of an entry
+// stay in their table where the entry is refused.
+fn read_loop(
     s: &[u8],
-    column_widths: &[u32],
     row_heights: &[u32],
-    deltas_coded: bool,
-    n: SliceIdx,
+    ctx: SliceLoopCtx,
     entries: &mut [[u32; ENTRY_LEN]],
     split_heights: &mut [u32],
     c: Cursor,
 ) -> RectSlicesRead
-    ensures { λ r. ⌜ SlicesRead (slicesFor (now («column_widths» .entry)) (now («row_heights» .entry)) «deltas_coded» (n .0) (length (now («split_heights» .entry))) (now (s .entry)) c) (refusedFor (now («column_widths» .entry)) (now («row_heights» .entry)) «deltas_coded» (n .0) (length (now («split_heights» .entry))) (now (s .entry)) c) (slicesBefore entries «split_heights») (slicesAfter entries «split_heights») (r .count) (r .next) ⌝ }
+    requires { ⌜ (ctx .«num_tile_rows» ≡ length (now «row_heights»))
+        × (ctx .«num_tile_rows» * ctx .«num_tile_columns» ≤ 4294967295) ⌝ }
+    ensures { λ r.
+        ⌜ ((g : Grid) → LoopOver ctx (now («row_heights» .entry)) g
+        → LoopRead g (ctx .«delta_present») (ctx .«num_slices_minus1» .0) (now (s .entry)) c
+        (slicesBefore entries «split_heights») (slicesAfter entries «split_heights») (r .count) (r .next)) ⌝ }
 {
-    let start = loop_start(
-        column_widths.len(),
-        row_heights.len(),
-        n,
-        split_heights.len(),
-        c,
-    );
-    if start.refused != 0 {
-        return RectSlicesRead {
-            count: 0,
-            next: start,
-        };
-    }
-    let ctx = SliceLoopCtx {
-        num_tile_columns: column_widths.len() as u32,
-        num_tile_rows: row_heights.len() as u32,
-        delta_present: deltas_coded,
-        num_slices_minus1: n,
-    };
-    let mut cur = start;
+    let n = ctx.num_slices_minus1;
+    let mut cur = c;
     let mut slice = SliceIdx(0);
     let mut tile = TileIdx(0);
     let mut preceding_height: u32 = 0;
@@ -101,4 +82,31 @@ pub fn read_rect_slices(
         count: i,
         next: cur,
     }
+}
+
+// The slices of a grid of so many columns and of these row heights, of which no more than `MAX_TILES` are looked at, so
+// that a tile's index has 32 bits.
+pub fn read_rect_slices(
+    s: &[u8],
+    num_tile_columns: u8,
+    row_heights: &[u32],
+    deltas_coded: bool,
+    n: SliceIdx,
+    entries: &mut [[u32; ENTRY_LEN]],
+    split_heights: &mut [u32],
+    c: Cursor,
+) -> RectSlicesRead
+    ensures { λ r.
+        ⌜ ((g : Grid) → GridHas «num_tile_columns» (take maxTiles (now («row_heights» .entry))) g
+        → LoopRead g «deltas_coded» (n .0) (now (s .entry)) c
+        (slicesBefore entries «split_heights») (slicesAfter entries «split_heights») (r .count) (r .next)) ⌝ }
+{
+    let rows = at_most(MAX_TILES, row_heights.len());
+    let ctx = SliceLoopCtx {
+        num_tile_columns: num_tile_columns as u32,
+        num_tile_rows: rows as u32,
+        delta_present: deltas_coded,
+        num_slices_minus1: n,
+    };
+    read_loop(s, &row_heights[..rows], ctx, entries, split_heights, c)
 }

@@ -1,14 +1,15 @@
-// The parts of an entry of the slice loop (H.266 7.3.2.5): width, height, explicit slice heights, and the way to the next tile.
+// The parts of an entry of the slice loop (H.266 7.3.2.5): width, height, explicit slice heights, the way to the next
+// tile.
 ghost use mathlib.Core.Path.{_≡_};
-ghost use mathlib.Core.Bool.{cond};
-ghost use Prim.Native.Nat.{suc, _+_, _-_, _*_, _≤_, _<_, min};
+ghost use mathlib.Core.Bool.{true, cond};
+ghost use Prim.Native.Nat.{suc, _+_, _-_, _*_, _≤_, min};
 ghost use lib.Dec.{eqb, ltb, leb};
-ghost use lib.ListN.{length};
 ghost use lib.Seq.{sets};
 ghost use Rattle.bit_reader.specs.Reading.{ueRead, bitsOr};
 ghost use Rattle.syntax.specs.Elements.{oneIf};
+ghost use Rattle.pps_fields.specs.Axis.{axisOf};
 ghost use Rattle.pps_fields.specs.FieldReads.{tested};
-ghost use Rattle.pps_slices.specs.EntryReads.{widthRead, heightRead, countRead, heightsRead, lastOf, heightsTested};
+ghost use Rattle.pps_slices.specs.EntryReads.{widthRead, heightRead, heightsRead, SplitIs};
 ghost use Rattle.pps_slices.specs.Moves.{Moved};
 use bit_reader::BitsRead;
 use bit_reader::Cursor;
@@ -16,14 +17,12 @@ use bit_reader::guarded::demand;
 use bit_reader::guarded::se_or;
 use bit_reader::guarded::ue_or;
 use pps_fields::fields::ue_below;
-use pps_fields::lists::ListRead;
-use pps_fields::lists::read_sizes;
+use pps_fields::lists::AxisRead;
+use pps_fields::lists::read_axis;
 use slice_loop::CtbCount;
 use slice_loop::SliceIdx;
 use slice_loop::SliceLoopCtx;
 use slice_loop::TileIdx;
-use tile_sizes::SlicesInTile;
-use tile_sizes::num_slices_in_tile;
 
 // A presence flag.
 pub fn flag_of(on: bool) -> u32
@@ -60,21 +59,14 @@ pub fn read_height(
     preceding: u32,
     c: Cursor,
 ) -> BitsRead
-    ensures { λ r. ⌜ r ≡ heightRead (ctx .«num_tile_columns») (ctx .«num_tile_rows») (ctx .«delta_present») (tile .0) preceding (now (s .entry)) c ⌝ }
+    ensures { λ r.
+        ⌜ r ≡ heightRead (ctx .«num_tile_columns») (ctx .«num_tile_rows») (ctx .«delta_present») (tile .0) preceding
+        (now (s .entry)) c ⌝ }
 {
     let coded = ctx.height_coded(tile);
     let inherited = ctx.inherited_height(tile, preceding);
     let left = ctx.rows_left(tile);
     size_in_tiles(s, coded, inherited, left, c)
-}
-
-pub fn read_count(s: &[u8], split: bool, row: CtbCount, c: Cursor) -> BitsRead
-    ensures { λ r. ⌜ r ≡ countRead split (row .0) (now (s .entry)) c ⌝ }
-{
-    if split {
-        return ue_below(s, row.0, 16, c);
-    }
-    BitsRead { value: 0, next: c }
 }
 
 // So many slices are not more than from this index on, with one to spare.
@@ -87,36 +79,34 @@ pub fn few_enough(count: u32, n: SliceIdx, slice: SliceIdx) -> bool
     count as u64 <= (n.0 - slice.0) as u64 + 1
 }
 
-// The explicit slice heights of a tile, into the table from place `from` on.
+// The explicit slice heights of a tile that is split, into the table from place `from` on.
 pub fn read_heights(
     s: &[u8],
-    split: bool,
     row: CtbCount,
     n: SliceIdx,
     slice: SliceIdx,
     split_heights: &mut [u32],
     from: usize,
     c: Cursor,
-) -> ListRead
-    ensures next { λ r. ⌜ r .next ≡ heightsRead split (row .0) (n .0) (slice .0) (now (s .entry)) c .next ⌝ }
-    ensures count { λ r. ⌜ r .count ≡ length (heightsRead split (row .0) (n .0) (slice .0) (now (s .entry)) c .value) ⌝ }
-    ensures table { λ _. ⌜ now («split_heights» .exit) ≡ sets (now («split_heights» .entry)) from (heightsRead split (row .0) (n .0) (slice .0) (now (s .entry)) c .value) ⌝ }
+) -> AxisRead
+    ensures axis { λ r.
+        let heights = heightsRead true (row .0) (n .0) (slice .0) (now (s .entry)) c in
+        ⌜ r ≡ axisOf (heights .value) (row .0) (heights .next) ⌝ }
+    ensures table { λ _.
+        let heights = heightsRead true (row .0) (n .0) (slice .0) (now (s .entry)) c in
+        ⌜ now («split_heights» .exit) ≡ sets (now («split_heights» .entry)) from (heights .value) ⌝ }
 {
-    let count = read_count(s, split, row, c);
+    let count = ue_below(s, row.0, 16, c);
     let few = few_enough(count.value, n, slice);
-    let next = demand(!split | few, 17, count.next);
-    read_sizes(s, count.value, row.0, 16, split_heights, from, next)
+    let next = demand(few, 17, count.next);
+    read_axis(s, count.value, row, 16, split_heights, from, next)
 }
 
-// NumSlicesInTile, also where the explicit heights pass the row.
-pub fn slices_of(counted: SlicesInTile, heights: u32) -> u32
-    ensures { λ r. ⌜ r ≡ cond (eqb (counted .refused) 0) (counted .«num_slices») heights ⌝ }
+// NumSlicesInTile of 6.5.1, equation 21: one where there is no explicit height.
+pub fn num_slices_in_tile(count: u32, sizes: u32) -> u32
+    ensures { λ r. ⌜ r ≡ cond (eqb count 0) 1 sizes ⌝ }
 {
-    if counted.refused == 0 {
-        counted.num_slices
-    } else {
-        heights
-    }
+    if count == 0 { 1 } else { sizes }
 }
 
 // The index of the last of `count` slices from `slice` on, at most n.
@@ -151,7 +141,7 @@ pub struct SplitRead {
     pub next: Cursor,
 }
 
-// The explicit slice heights of a 1 × 1 slice, and the slices that they give; the table has room for N + 1 of them.
+// The explicit slice heights of a 1 × 1 slice, and the slices that they give.
 pub fn read_split(
     s: &[u8],
     split: bool,
@@ -162,11 +152,10 @@ pub fn read_split(
     from: usize,
     c: Cursor,
 ) -> SplitRead
-    requires { ⌜ (from ≤ slice .0) × (slice .0 ≤ ctx .«num_slices_minus1» .0) × (ctx .«num_slices_minus1» .0 < length (now «split_heights»)) ⌝ }
-    ensures count { λ r. ⌜ r .count ≡ length (heightsRead split (row .0) (ctx .«num_slices_minus1» .0) (slice .0) (now (s .entry)) c .value) ⌝ }
-    ensures last { λ r. ⌜ r .last .0 ≡ min (lastOf (slice .0) (row .0) (heightsRead split (row .0) (ctx .«num_slices_minus1» .0) (slice .0) (now (s .entry)) c .value)) (ctx .«num_slices_minus1» .0) ⌝ }
-    ensures next { λ r. ⌜ r .next ≡ heightsTested (row .0) (ctx .«num_slices_minus1» .0) (slice .0) (heightsRead split (row .0) (ctx .«num_slices_minus1» .0) (slice .0) (now (s .entry)) c) ⌝ }
-    ensures table { λ _. ⌜ now («split_heights» .exit) ≡ sets (now («split_heights» .entry)) from (heightsRead split (row .0) (ctx .«num_slices_minus1» .0) (slice .0) (now (s .entry)) c .value) ⌝ }
+    requires { ⌜ slice .0 ≤ ctx .«num_slices_minus1» .0 ⌝ }
+    ensures { λ r.
+        ⌜ SplitIs split (row .0) (ctx .«num_slices_minus1» .0) (slice .0) (now (s .entry)) c from
+        (now («split_heights» .entry)) (now («split_heights» .exit)) (r .count) (r .last .0) (r .next) ⌝ }
 {
     if !split {
         let last = SliceIdx(slice.0);
@@ -180,12 +169,10 @@ pub fn read_split(
         };
     }
     let n = ctx.num_slices_minus1;
-    let heights = read_heights(s, split, row, n, slice, split_heights, from, c);
+    let heights = read_heights(s, row, n, slice, split_heights, from, c);
     let count = heights.count;
-    let to = from + count as usize;
-    let counted = num_slices_in_tile(&split_heights[from..to], row);
-    let fits = demand(counted.refused == 0, 16, heights.next);
-    let slices = slices_of(counted, count);
+    let fits = demand(heights.fits, 16, heights.next);
+    let slices = num_slices_in_tile(count, heights.sizes);
     let last = last_slice(n, slice, slices);
     let past = ctx.too_many_slices(slice, slices);
     let next = demand(!past, 17, fits);
@@ -218,7 +205,9 @@ pub fn read_move(
     c: Cursor,
 ) -> MoveRead
     requires { ⌜ ctx .«num_tile_rows» * ctx .«num_tile_columns» ≤ 4294967295 ⌝ }
-    ensures { λ r. ⌜ Moved (ctx .«num_tile_columns») (ctx .«num_tile_rows» * ctx .«num_tile_columns») (ctx .«delta_present») (ltb (last .0) (ctx .«num_slices_minus1» .0)) (tile .0) width height (now (s .entry)) c r ⌝ }
+    ensures { λ r.
+        ⌜ Moved (ctx .«num_tile_columns») (ctx .«num_tile_rows» * ctx .«num_tile_columns») (ctx .«delta_present»)
+        (ltb (last .0) (ctx .«num_slices_minus1» .0)) (tile .0) width height (now (s .entry)) c r ⌝ }
 {
     let more = ctx.slices_to_come(last);
     if ctx.delta_present {

@@ -6,7 +6,7 @@ use native.Mathlib.Omega.{arith}
 use lib.ListN.{length, take}
 use Rattle.grid_sizes.specs.declared.GridSizes.{GridSizes}
 use Rattle.grid_sizes.specs.Fronts.{gridIn, take-most, front-length}
-use Rattle.partition.specs.Grid.{gridOf as gridFrom, tiles, maxTileColumns, maxTiles}
+use Rattle.partition.specs.Grid.{gridWith, tiles, maxTileColumns, maxTiles}
 
 -- The first `columns` and `rows` of them are in use.
 pub record InUse (s : GridSizes) (columns rows : ℕ) : Type 0 where
@@ -15,7 +15,7 @@ pub record InUse (s : GridSizes) (columns rows : ℕ) : Type 0 where
   pub columnsAre : columns ≡ length (take columns (s .«column_widths»))
   pub rowsAre : rows ≡ length (take rows (s .«row_heights»))
   pub tiled : rows * columns ≡ tiles (gridIn s)
-  pub grid : gridFrom (take columns (s .«column_widths»)) (take rows (s .«row_heights»)) ≡ gridIn s
+  pub grid : gridWith (take columns (s .«column_widths»)) (take rows (s .«row_heights»)) ≡ gridIn s
 
 -- the counts, held to the tables
 pub in-use : (s : GridSizes) (columns rows : ℕ)
@@ -29,7 +29,7 @@ in-use s columns rows l m c r =
     let i = front-length _ rows (s .«row_heights») b in
     let x = take-most (s .«num_tile_columns») (s .«column_widths») in
     let y = take-most (s .«num_tile_rows») (s .«row_heights») in
-    let g : gridFrom (take columns (s .«column_widths»)) (take rows (s .«row_heights»)) ≡ gridIn s = rw (a, b, x, y) in
+    let g : gridWith (take columns (s .«column_widths»)) (take rows (s .«row_heights»)) ≡ gridIn s = rw (a, b, x, y) in
     record {
       few = omega arith;
       low = omega arith;

@@ -5,7 +5,7 @@ use mathlib.Core.Bool.{Bool, cond}
 use denote.Ref.{now}
 use Rattle.partition.specs.Checks.{firstBad, numberOf}
 use Rattle.partition.specs.Entry.{Entry, Position, asking, defaultAdvance, entryChecks, nextPosition}
-use Rattle.partition.specs.Grid.{Grid, gridOf as gridFrom}
+use Rattle.partition.specs.Grid.{Grid, gridWith}
 use Rattle.pps_tables.specs.declared.RectSliceEntry.{RectSliceEntry}
 use Rattle.pps_tables.specs.Parameters.{Numbers}
 use Rattle.slice_loop.specs.declared.TileIdx.{TileIdx}
@@ -14,7 +14,7 @@ use Rattle.question_tests.specs.declared.entry.EntryStep.{EntryStep}
 
 -- the columns and rows lent to a function
 abbrev pub gridBefore : Numbers → Numbers → Grid
-gridBefore columns rows = gridFrom (now (columns .entry)) (now (rows .entry))
+gridBefore columns rows = gridWith (now (columns .entry)) (now (rows .entry))
 
 -- The next slice's tile, as far as it is one.
 unfoldable pub movedTo : ℕ → ℕ → Bool → ℕ → RectSliceEntry → TileIdx

@@ -12,7 +12,7 @@ use borrow.Author.Tests.{eqb-true, eqb-false, eq-eqb, ne-eqb}
 use Rattle.partition.specs.Accepted.{GridFits, grid-fits}
 use Rattle.partition.specs.Checks.{Check, Outcome, fine, refusedWith, firstBad, numberOf, passes, number-refused, Numbered, zero-fine}
 use Rattle.partition.specs.Entry.{asking}
-use Rattle.partition.specs.Grid.{Grid, gridOf as gridFrom, tiles, columns, rows, maxTileColumns, maxTiles, maxSlicesMinus1}
+use Rattle.partition.specs.Grid.{Grid, gridWith, tiles, columns, rows, maxTileColumns, maxTiles, maxSlicesMinus1}
 use Rattle.partition.specs.Groups.{Group}
 use Rattle.partition.specs.Partition.{inCtbs, tileGrid, explicitChecks, axisChecks, gridChecks, gridOf, gridChecksOf, deltaFlagChecks, partitionChecks, Layout, declined, unsliced, sliced, unless, layout}
 use Rattle.partition.specs.Walk.{placed}
@@ -301,7 +301,7 @@ module _ (r : VvcPps) (t : Lent) where
         unfolding gridOfSizes tableOf
         grid-back = rw made (both (take-append-seam (grid .columnWidths) _) (take-append-seam (grid .rowHeights) _))
           where
-            both : {x y : List ℕ} → x ≡ grid .columnWidths → y ≡ grid .rowHeights → gridFrom x y ≡ grid
+            both : {x y : List ℕ} → x ≡ grid .columnWidths → y ≡ grid .rowHeights → gridWith x y ≡ grid
             both i j = rw (i, j)
 
         -- ---- the slices in it

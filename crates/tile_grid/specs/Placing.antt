@@ -9,7 +9,7 @@ use lib.ListN.{length, getD, set, take, drop, replicate, length-append}
 use borrow.Author.Tests.{ltb-false}
 use Rattle.partition.specs.Axis.{boundary, boundary-suc, boundary-mono, boundary-le, span}
 use Rattle.partition.specs.Entry.{Entry, Position, asking, firstPosition, tileX, tileY, splitCoded, splitHeights, lastSliceOf, nextTile, nextPosition}
-use Rattle.partition.specs.Grid.{Grid, gridOf as gridFrom, columns, rows, tiles, maxSlicesMinus1, maxSlices}
+use Rattle.partition.specs.Grid.{Grid, gridWith, columns, rows, tiles, maxSlicesMinus1, maxSlices}
 use Rattle.partition.specs.Groups.{Group, stacked, groupSlices, plan, stacked-length}
 use Rattle.partition.specs.Placed.{Step, step, End, to-bottom-right, used-by-split, end, Passed, entry-passed, tileX-lt, tileY-lt, split-flat, row-span, entry-slices, some-piece, walk-slices, placed-same}
 use Rattle.partition.specs.Sizes.{sum, explicitSizes, Fit}
@@ -85,7 +85,7 @@ module _ {ws hs cs rs : List ℕ} (C : StartsAt ws cs) (R : StartsAt hs rs) (x y
 
 module _ (ws hs : List ℕ) (d : Bool) (N : ℕ) (t : SliceTables) (n : ℕ) (P₀ G₀ : PlanTables) where
   abbrev grid : Grid
-  grid = gridFrom ws hs
+  grid = gridWith ws hs
 
   -- `all` are the groups, `rest` those that are still to be placed.
   pub record Placing (P G : PlanTables) (slice tile i from : ℕ) : Type 0 where
@@ -128,8 +128,8 @@ module _ (ws hs : List ℕ) (d : Bool) (N : ℕ) (t : SliceTables) (n : ℕ) (P�
 module _ (ws hs : List ℕ) (d : Bool) (N : ℕ) (t : SliceTables) (n : ℕ) (P₀ G₀ : PlanTables) where
   pub record Done (P G : PlanTables) (slice groups : ℕ) : Type 0 where
     pub all : List Group
-    pub whole : walk asking (gridFrom ws hs) d N firstPosition (entriesIn t n) ≡ placed all
-    pub plans : P ≡ putPlan P₀ 0 (plan (gridFrom ws hs) all)
+    pub whole : walk asking (gridWith ws hs) d N firstPosition (entriesIn t n) ≡ placed all
+    pub plans : P ≡ putPlan P₀ 0 (plan (gridWith ws hs) all)
     pub tiled : G ≡ putPlan G₀ 0 (map rect all)
     pub slices : slice ≡ suc N
     pub count : groups ≡ length all
@@ -137,7 +137,7 @@ module _ (ws hs : List ℕ) (d : Bool) (N : ℕ) (t : SliceTables) (n : ℕ) (P�
 
 module _ {ws hs : List ℕ} {d : Bool} {N : ℕ} {t : SliceTables} {n : ℕ} {P₀ G₀ P G : PlanTables} {slice tile i from : ℕ} (H : Placing ws hs d N t n P₀ G₀ P G slice tile i from) where
   abbrev g : Grid
-  g = gridFrom ws hs
+  g = gridWith ws hs
 
   abbrev here : ℕ
   here = H .at .precedingHeightMinus1
@@ -497,23 +497,23 @@ groups-filled ps h =
     rects-length (p ∷ ps) = ap suc (rects-length ps)
 
 module _ {ws hs : List ℕ} {d : Bool} {N : ℕ} {t : SliceTables} {n : ℕ} {P G : PlanTables} {slice groups : ℕ} (D : Done ws hs d N t n blank blank P G slice groups) (few : N ≤ maxSlicesMinus1) where
-  module _ (ps : List Group) (q : walk asking (gridFrom ws hs) d N firstPosition (entriesIn t n) ≡ placed ps) where
+  module _ (ps : List Group) (q : walk asking (gridWith ws hs) d N firstPosition (entriesIn t n) ≡ placed ps) where
     all-is : D .all ≡ ps
     all-is = placed-same (D .all) ps (sym (D .whole) ∙ q)
 
-    slices-are : length (plan (gridFrom ws hs) ps) ≡ suc N
-    slices-are = omega (arith, walk-slices (gridFrom ws hs) asking d N _ firstPosition ps (omega arith) q)
+    slices-are : length (plan (gridWith ws hs) ps) ≡ suc N
+    slices-are = omega (arith, walk-slices (gridWith ws hs) asking d N _ firstPosition ps (omega arith) q)
 
-    plan-made : P ≡ planTables (tableOf maxSlices (map (λ s. s .left) (plan (gridFrom ws hs) ps))) (tableOf maxSlices (map (λ s. s .top) (plan (gridFrom ws hs) ps))) (tableOf maxSlices (map (λ s. s .width) (plan (gridFrom ws hs) ps))) (tableOf maxSlices (map (λ s. s .height) (plan (gridFrom ws hs) ps)))
-    plan-made = D .plans ∙ rw all-is (tables-filled (plan (gridFrom ws hs) ps) (omega (arith, slices-are)))
+    plan-made : P ≡ planTables (tableOf maxSlices (map (λ s. s .left) (plan (gridWith ws hs) ps))) (tableOf maxSlices (map (λ s. s .top) (plan (gridWith ws hs) ps))) (tableOf maxSlices (map (λ s. s .width) (plan (gridWith ws hs) ps))) (tableOf maxSlices (map (λ s. s .height) (plan (gridWith ws hs) ps)))
+    plan-made = D .plans ∙ rw all-is (tables-filled (plan (gridWith ws hs) ps) (omega (arith, slices-are)))
 
     groups-made : G ≡ planTables (tableOf maxSlices (map (λ p. p .tileX) ps)) (tableOf maxSlices (map (λ p. p .tileY) ps)) (tableOf maxSlices (map (λ p. p .width) ps)) (tableOf maxSlices (map (λ p. p .height) ps))
     groups-made = D .tiled ∙ rw all-is (groups-filled ps (omega (arith, D .count, D .few, ap length all-is)))
 
     pub all-placed : record { «num_slices» = slice; left = P .lefts; top = P .tops; width = P .widths; height = P .heights; «num_groups» = groups; «tile_x» = G .lefts; «tile_y» = G .tops; columns = G .widths; rows = G .heights }
-        ≡ placedOf (plan (gridFrom ws hs) ps) ps
+        ≡ placedOf (plan (gridWith ws hs) ps) ps
     unfolding placedOf
     all-placed =
-        let a : slice ≡ length (plan (gridFrom ws hs) ps) = omega (arith, D .slices, slices-are) in
+        let a : slice ≡ length (plan (gridWith ws hs) ps) = omega (arith, D .slices, slices-are) in
         let b : groups ≡ length ps = D .count ∙ ap length all-is in
         rw (a, b, plan-made, groups-made)

@@ -5,7 +5,7 @@ ghost use mathlib.Core.List.{List};
 ghost use Prim.Native.Nat.{_+_, _-_, _≤_, _<_};
 ghost use lib.ListN.{length, getD, set};
 ghost use Rattle.partition.specs.Entry.{asking, firstPosition, splitHeights};
-ghost use Rattle.partition.specs.Grid.{gridOf as gridFrom, tiles, maxSlicesMinus1, maxSlices};
+ghost use Rattle.partition.specs.Grid.{gridWith, tiles, maxSlicesMinus1, maxSlices};
 ghost use Rattle.partition.specs.Groups.{Group, stacked, plan};
 ghost use Rattle.partition.specs.Sizes.{Fit};
 ghost use Rattle.partition.specs.Walk.{walk, placed};
@@ -118,7 +118,7 @@ pub fn place_slices(
     entries: &[[u32; ENTRY_LEN]],
     split_heights: &[u32],
 ) -> Placed
-    requires { let g = gridFrom (now «column_widths») (now «row_heights») in
+    requires { let g = gridWith (now «column_widths») (now «row_heights») in
         let es = entriesIn (sliceTables (now entries) (now «split_heights»)) count in
         ⌜ StartsAt (now «column_widths») (now «column_starts») × StartsAt (now «row_heights») (now «row_starts»)
         × (0 < tiles g) × (n .0 ≤ maxSlicesMinus1)

@@ -4,7 +4,7 @@ ghost use mathlib.Core.Path.{_≡_};
 ghost use mathlib.Core.List.{List};
 ghost use Prim.Native.Nat.{_≤_};
 ghost use Rattle.grid_sizes.specs.Fronts.{gridIn};
-ghost use Rattle.partition.specs.Grid.{gridOf as gridFrom, maxSlicesMinus1};
+ghost use Rattle.partition.specs.Grid.{gridWith, maxSlicesMinus1};
 ghost use Rattle.partition.specs.Groups.{Group, plan};
 ghost use Rattle.partition.specs.Partition.{declined};
 ghost use Rattle.partition.specs.Walk.{placed};
@@ -83,7 +83,7 @@ fn accepted_slices(
     entries: &[[u32; ENTRY_LEN]],
     split_heights: &[u32],
 ) -> Placed
-    requires { let g = gridFrom (now «column_widths») (now «row_heights») in
+    requires { let g = gridWith (now «column_widths») (now «row_heights») in
         let t = sliceTables (now entries) (now «split_heights») in
         ⌜ Proper g × (p .«pps_num_slices_in_pic_minus1» ≤ maxSlicesMinus1)
         × ((ps : List Group) × (walked g p t ≡ placed ps)) ⌝ }

@@ -3,13 +3,13 @@ use mathlib.Core.Path.{_≡_, refl, _∙_}
 use mathlib.Core.List.{List, [], _∷_, _++_}
 use mathlib.Core.Bool.{Bool, true, false}
 use Prim.Native.Nat.{ℕ, zero, suc, _+_, _-_, _/_, _%_, _≤_, _<_, min}
-use native.Mathlib.Nat.{div-eq-sub-div, mod-eq-sub-mod, div-eq-of-lt, mod-eq-of-lt, zero-div, zero-mod}
+use native.Mathlib.Nat.{div-eq-sub-div, mod-eq-sub-mod, div-eq-of-lt, mod-eq-of-lt, zero-div, zero-mod, div-zero, mod-zero}
 use native.Mathlib.Numerals.{add-one}
 use native.Mathlib.Omega.{arith}
 use lib.Dec.{ltb}
 use borrow.Author.Tests.{ltb-true, ltb-false}
-use lib.ListN.{length, getD, drop, replicate}
-use Rattle.partition.specs.Sizes.{sum, explicitSizes, uniformSize, tailSize, uniformSizes, Fit}
+use lib.ListN.{length, getD, drop, replicate, length-append, length-replicate}
+use Rattle.partition.specs.Sizes.{sum, explicitSizes, uniformSize, tailSize, uniformSizes, axisSizes, length-sizes, Fit}
 use Rattle.tile_sizes.specs.Answers.{nextSize}
 
 -- ---- one size after the other
@@ -76,3 +76,25 @@ uniform-fits (e ∷ k ∷ es) total h f = uniform-fits (k ∷ es) total (omega a
 
 pub last-fits : (es : List ℕ) (total : ℕ) → 1 ≤ length es → Fit es total → getD es (length es - 1) 0 + 1 ≤ total
 last-fits es total h f = omega (arith, last-is es h, uniform-fits es total h f)
+
+-- ---- how many
+
+tail-length : (r : ℕ) → length (tailSize r) ≡ min 1 r
+unfolding tailSize
+tail-length zero = omega arith
+tail-length (suc r) = omega arith
+
+pub uniform-length : (u n : ℕ) → length (uniformSizes u n) ≡ n / u + min 1 (n % u)
+unfolding uniformSizes
+uniform-length u n = omega (arith, length-append (replicate (n / u) u) (tailSize (n % u)), length-replicate (n / u) u, tail-length (n % u))
+
+-- the explicit ones, and those that fill the rest
+pub axis-length : (es : List ℕ) (total : ℕ) → length (axisSizes es total) ≡ length es + length (uniformSizes (uniformSize es) (total - sum (explicitSizes es)))
+axis-length es total = omega (arith, length-sizes es total, uniform-length (uniformSize es) (total - sum (explicitSizes es)))
+
+pub none-length : (u n : ℕ) → n ≡ 0 → length (uniformSizes u n) ≡ 0
+none-length u n e = rw (e, none-left u)
+
+-- a uniform size of 0 leaves the rest one size
+pub tail-alone : (u n : ℕ) → u ≡ 0 → (n ≡ 0 → ⊥) → 1 ≡ length (uniformSizes u n)
+tail-alone u n e h = rw e (omega (arith, uniform-length 0 n, div-zero n, mod-zero n, h))

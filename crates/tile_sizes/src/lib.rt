@@ -6,7 +6,7 @@ ghost use lib.ListN.{length, drop};
 ghost use lib.Dec.{leb};
 ghost use Rattle.partition.specs.Entry.{someAtLeast};
 ghost use Rattle.partition.specs.Partition.{inCtbs};
-ghost use Rattle.partition.specs.Sizes.{sum, explicitSizes, axisSizes};
+ghost use Rattle.partition.specs.Sizes.{sum, explicitSizes, uniformSizes, axisSizes};
 ghost use Rattle.tile_sizes.specs.Answers.{nextSize, slicesInTile};
 ghost use Rattle.tile_sizes.specs.Limits.{withinLimits};
 use slice_loop::CtbCount;
@@ -76,6 +76,19 @@ fn pieces(remaining: u32, u: u32) -> u32
     } else {
         remaining / u + 1
     }
+}
+
+// How many sizes fill what remains of an axis: the uniform one as often as it fits, then a tail.
+pub fn uniform_sizes(uniform: u32, remaining: u32) -> u32
+    ensures { λ r. ⌜ (r ≡ length (uniformSizes uniform remaining)) × (r ≤ remaining) ⌝ }
+{
+    if remaining == 0 {
+        return 0;
+    }
+    if uniform == 0 {
+        return 1;
+    }
+    pieces(remaining, uniform)
 }
 
 // One pass over the explicit sizes of an axis (minus 1): how many sizes there are, without making them.

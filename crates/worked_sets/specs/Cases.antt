@@ -152,8 +152,8 @@ plans n ss =
       height = tableOf maxSlices (map (λ s. s .height) ss);
     }
 
-abbrev gridWith : List ℕ → List ℕ → GridAnswer
-gridWith columns rows = gridHeld (gridOfSizes columns rows)
+abbrev gridAnswered : List ℕ → List ℕ → GridAnswer
+gridAnswered columns rows = gridHeld (gridOfSizes columns rows)
 
 abbrev declines : ℕ → Outcome
 declines n = answers (gridHeld (refusedSizes n)) (plans n []) [] noPlan
@@ -175,23 +175,23 @@ cases =
     ∷ example (reading (unit [])) (refuses 22)
     ∷ example (reading (0x00 ∷ 0x81 ∷ [])) (refuses 7)
     -- Tiles. 10 CTBs: explicit 3 gives 3, 3, 3, 1; 5, 6 gives 12
-    ∷ example (tiling 320 32 0 (2 ∷ []) (0 ∷ [])) (grids (gridWith (3 ∷ 3 ∷ 3 ∷ 1 ∷ []) (1 ∷ [])))
+    ∷ example (tiling 320 32 0 (2 ∷ []) (0 ∷ [])) (grids (gridAnswered (3 ∷ 3 ∷ 3 ∷ 1 ∷ []) (1 ∷ [])))
     ∷ example (tiling 320 32 0 (4 ∷ 5 ∷ []) (0 ∷ [])) (grids (gridHeld (refusedSizes 12)))
     -- Slices in a tile. A row of 7 CTBs: heights 3, 2 give three slices; 4, 4 gives 16
     ∷ example (splitting (2 ∷ 1 ∷ []) 7) (splits (record { refused = 0; «num_slices» = 3 }))
     ∷ example (splitting (3 ∷ 3 ∷ []) 7) (splits (record { refused = 16; «num_slices» = 0 }))
     -- the same asked of a record
-    ∷ example (asking (partitioned 32 224 (slicing 2 0 1)) (rowOf7 (2 ∷ 1 ∷ []))) (answers (gridWith (1 ∷ []) (7 ∷ [])) (plans 0 (slice 0 0 1 3 ∷ slice 0 3 1 2 ∷ slice 0 5 1 2 ∷ [])) (1 ∷ []) whole)
+    ∷ example (asking (partitioned 32 224 (slicing 2 0 1)) (rowOf7 (2 ∷ 1 ∷ []))) (answers (gridAnswered (1 ∷ []) (7 ∷ [])) (plans 0 (slice 0 0 1 3 ∷ slice 0 3 1 2 ∷ slice 0 5 1 2 ∷ [])) (1 ∷ []) whole)
     ∷ example (asking (partitioned 32 224 (slicing 2 0 1)) (rowOf7 (3 ∷ 3 ∷ []))) (declines 16)
     -- Cover. 2 × 2 tiles, N 1, first slice one tile: gap, tile 2
-    ∷ example (asking (partitioned 64 64 (slicing 1 0 1)) zeroTables) (answers (gridWith (1 ∷ 1 ∷ []) (1 ∷ 1 ∷ [])) (plans 0 (slice 0 0 1 1 ∷ slice 1 0 1 2 ∷ [])) (1 ∷ 1 ∷ 0 ∷ 1 ∷ []) (gap 2))
+    ∷ example (asking (partitioned 64 64 (slicing 1 0 1)) zeroTables) (answers (gridAnswered (1 ∷ 1 ∷ []) (1 ∷ 1 ∷ [])) (plans 0 (slice 0 0 1 1 ∷ slice 1 0 1 2 ∷ [])) (1 ∷ 1 ∷ 0 ∷ 1 ∷ []) (gap 2))
     -- N 2, deltas: tile 0, +1; tiles 1 and 3, −1; and the last slice from tile 0 over all: double; tiles 0, 1 and 3 qualify
-    ∷ example (asking (partitioned 64 64 (slicing 2 1 2)) (withDeltas (pos 1) (negsuc 0))) (answers (gridWith (1 ∷ 1 ∷ []) (1 ∷ 1 ∷ [])) (plans 0 (slice 0 0 1 1 ∷ slice 1 0 1 2 ∷ slice 0 0 2 2 ∷ [])) (2 ∷ 2 ∷ 1 ∷ 2 ∷ []) (double 0))
+    ∷ example (asking (partitioned 64 64 (slicing 2 1 2)) (withDeltas (pos 1) (negsuc 0))) (answers (gridAnswered (1 ∷ 1 ∷ []) (1 ∷ 1 ∷ [])) (plans 0 (slice 0 0 1 1 ∷ slice 1 0 1 2 ∷ slice 0 0 2 2 ∷ [])) (2 ∷ 2 ∷ 1 ∷ 2 ∷ []) (double 0))
     -- What the questions refuse. A delta of −2147483648, before 18; a delta flag with N 1
     ∷ example (asking (partitioned 64 64 (slicing 2 1 2)) (withDeltas (negsuc 2147483647) (pos 0))) (declines 25)
     ∷ example (asking (partitioned 64 64 (slicing 1 1 1)) zeroTables) (declines 26)
     -- unpartitioned: no columns, no rows, no plan; then with a partition all the same, with a width of 0, with tables below their lengths
-    ∷ example (asking (unpartitioned 1 1) zeroTables) (answers (gridWith [] []) (plans 0 []) [] noPlan)
+    ∷ example (asking (unpartitioned 1 1) zeroTables) (answers (gridAnswered [] []) (plans 0 []) [] noPlan)
     ∷ example (asking (picture 1 1 1 (slicing 0 0 0) 0 0 0) zeroTables) (declines 26)
     ∷ example (asking (unpartitioned 0 1) zeroTables) (declines 7)
     ∷ example (asking (unpartitioned 1 1) noTables) (declines 5)

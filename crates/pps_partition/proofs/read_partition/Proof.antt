@@ -1,69 +1,74 @@
--- The parts of the block one behind the other: `partition-made`.
-use lib.ListN.{length}
-use Rattle.pps_partition.specs.Whole.{stored-from, grid-tested, partition-made, columns-long}
+-- The parts of the block one behind the other: `partition-made`, and `partition-stuck` where there is a refusal before
+-- the slices.
+use mathlib.Core.Path.{sym}
+use native.Mathlib.Omega.{arith}
+use lib.Seq.{length-take-le}
+use Rattle.pps_record.specs.Absent.{noPartition}
+use Rattle.pps_syntax.specs.Record.{partitionRecord}
+use Rattle.pps_partition.specs.TilesStored.{stored-lengths, rows-within}
+use Rattle.pps_partition.specs.Whole.{partition-made, partition-stuck, grid-small, spread-ready, spread-length, rows-few, grid-has}
+use Rattle.pps_partition.proofs.Fronts.{table-long}
 use borrow.Author.Needs.{needs}
 use Rattle.pps_partition.proofs.read_partition.Statement.{statement}
 use Rattle.pps_partition.proofs.read_partition.Tie as tie
 
-tables-long-requires : tie.Need-tables-long-requires
-tables-long-requires c κs = search needs
-
-demand-requires : tie.Need-demand-requires
-demand-requires c κs = search needs
-
-read-tile-sizes-requires : tie.Need-read-tile-sizes-requires
-read-tile-sizes-requires c κs = search needs
-
-sizes-in-tables-requires : tie.Need-sizes-in-tables-requires
-sizes-in-tables-requires c κs = search needs
-
-demand-requires-2 : tie.Need-demand-requires-2
-demand-requires-2 c κs = search needs
-
-read-in-grid-requires : tie.Need-read-in-grid-requires
-read-in-grid-requires c κs =
-    let a = c .before .before .before .before .before .before .before .before .before .before .before .before .before .before .before .before .before .before .before .before .before .args in
-    let l = length (a .split-heights .now) in
-    let S = stored-from (a .width) (a .height) (a .s .now) (a .c) l (a .tile-column-widths .now) (a .tile-row-heights .now) _ _ _ _ _ _ _ _ (c .before .before .before .before .before .before .before .before .before .before .before .before .before .before .before .before .tables-long .ensures) (c .before .before .before .before .before .before .before .before .before .before .before .before .before .before .before .demand .ensures) (c .before .before .before .before .before .before .before .before .before .before .before .before .read-tile-sizes .ensures) in
-    grid-tested (a .width) (a .height) (a .s .now) (a .c) l (a .tile-column-widths .now) (a .tile-row-heights .now) _ _ _ _ _ _ (c .before .before .before .before .before .sizes-in-tables .result) _ S (c .before .before .before .before .before .sizes-in-tables .ensures) (c .before .before .before .demand2 .ensures) .ready
-
-partition-of-requires : tie.Need-partition-of-requires
-partition-of-requires c κs = search needs
-
-same-length : tie.Need-same-length
-same-length c = columns-long (c .before .before .before .before .before .before .before .before .before .before .before .before .before .before .before .before .before .read-tile-sizes .ensures) .0
-
-same-length-2 : tie.Need-same-length-2
-same-length-2 c = columns-long (c .before .before .before .before .before .before .before .before .before .before .before .before .before .before .before .before .before .read-tile-sizes .ensures) .1
-
-same-length-3 : tie.Need-same-length-3
-same-length-3 c = search needs
-
-same-length-4 : tie.Need-same-length-4
-same-length-4 c = search needs
+copy-front-requires : tie.Need-copy-front-requires
+copy-front-requires c κs = rows-within _ _ _ _ (c .before .before .before .before .before .before .before .read-tile-sizes .ensures) table-long
 
 returns : tie.Need-returns
-returns c =
-    let a = c .before .before .before .before .before .before .before .before .before .before .before .before .before .before .before .before .before .before .before .before .before .before .before .before .before .before .args in
-    let l = length (a .split-heights .now) in
-    let S = stored-from (a .width) (a .height) (a .s .now) (a .c) l (a .tile-column-widths .now) (a .tile-row-heights .now) _ _ _ _ _ _ _ _ (c .before .before .before .before .before .before .before .before .before .before .before .before .before .before .before .before .before .before .before .before .before .tables-long .ensures) (c .before .before .before .before .before .before .before .before .before .before .before .before .before .before .before .before .before .before .before .before .demand .ensures) (c .before .before .before .before .before .before .before .before .before .before .before .before .before .before .before .before .before .read-tile-sizes .ensures) in
-    let G = grid-tested (a .width) (a .height) (a .s .now) (a .c) l (a .tile-column-widths .now) (a .tile-row-heights .now) _ _ _ _ _ _ (c .before .before .before .before .before .before .before .before .before .before .sizes-in-tables .result) _ S (c .before .before .before .before .before .before .before .before .before .before .sizes-in-tables .ensures) (c .before .before .before .before .before .before .before .before .demand2 .ensures) in
-    partition-made (a .width) (a .height) (a .s .now) (a .c) l (a .tile-column-widths .now) (a .tile-row-heights .now) _ _ _ _ _ _ _ _ _ _ (c .before .before .before .before .read-in-grid .result) _ S G
-    (c .before .before .before .before .read-in-grid .ensures _ (G .gridIs)) (c .partition-of .ensures)
+unfolding partitionRecord noPartition
+returns c = partition-stuck _ _ _ _ (c .before .before .before .before .before .before .before .before .before .before .before .before .before .before .read-tile-sizes .ensures) table-long (c .before .before .before .test-axes .ensures) _ _ _ _ (c .before .before .before .before .before .before .copy-front .ensures) (c .before .if1 .taken) (c .absent .ensures)
+
+spread-requires : tie.Need-spread-requires
+spread-requires c κs = spread-ready _ _ _ _ (c .before .before .before .before .before .before .before .before .before .before .before .before .before .before .read-tile-sizes .ensures) table-long (c .before .before .before .test-axes .ensures) (c .before .if1 .left)
+
+cast-read-slicing : tie.Need-cast-read-slicing
+cast-read-slicing c = omega (arith, grid-small _ _ _ _ (c .before .before .before .before .before .before .before .before .before .before .before .before .before .before .before .before .before .before .read-tile-sizes .ensures) table-long (c .before .before .before .before .before .before .before .test-axes .ensures) (c .before .before .before .before .before .if1 .left) .0)
+
+array-share-prefix-row-heights : tie.Need-array-share-prefix-row-heights
+array-share-prefix-row-heights c = spread-length _ _ _ _ (c .before .before .before .before .before .before .before .before .before .before .before .before .before .before .before .before .before .before .read-tile-sizes .ensures) table-long (c .before .before .before .before .before .before .before .test-axes .ensures) (c .before .before .before .before .before .if1 .left) (c .before .before .before .spread .ensures)
+
+slice-aggregate-read-slicing : tie.Need-slice-aggregate-read-slicing
+slice-aggregate-read-slicing c =
+    sym (length-take-le _ _ (spread-length _ _ _ _ (c .before .before .before .before .before .before .before .before .before .before .before .before .before .before .before .before .before .before .before .read-tile-sizes .ensures) table-long (c .before .before .before .before .before .before .before .before .test-axes .ensures) (c .before .before .before .before .before .before .if1 .left) (c .before .before .before .before .spread .ensures)))
+
+read-slicing-requires : tie.Need-read-slicing-requires
+read-slicing-requires c κs = rows-few _ _ _ _ (c .before .before .before .before .before .before .before .before .before .before .before .before .before .before .before .before .before .before .before .before .before .read-tile-sizes .ensures) table-long (c .before .before .before .before .before .before .before .before .before .before .test-axes .ensures) (c .before .before .before .before .before .before .before .before .if1 .left) _
+
+same-length-3 : tie.Need-same-length-3
+same-length-3 c = stored-lengths _ _ _ _ (c .before .before .before .before .before .before .before .before .before .before .before .before .before .before .before .before .before .before .before .before .before .before .before .before .before .before .read-tile-sizes .ensures) .0
+
+same-length-4 : tie.Need-same-length-4
+same-length-4 c = c .before .before .before .before .before .before .before .before .before .before .before .before .before .before .before .before .before .before .copy-front .kept .1 .1 .0
+
+returns-2 : tie.Need-returns-2
+returns-2 c =
+    partition-made _ _ _ _ (c .before .before .before .before .before .before .before .before .before .before .before .before .before .before .before .before .before .before .before .before .before .before .before .before .before .before .read-tile-sizes .ensures) table-long (c .before .before .before .before .before .before .before .before .before .before .before .before .before .before .before .test-axes .ensures) _ _ _ _ (c .before .before .before .before .read-slicing .result) _ (c .before .before .before .before .before .before .before .before .before .before .before .before .before .before .before .before .before .before .copy-front .ensures)
+    (c .before .before .before .before .read-slicing .ensures _ (grid-has _ _ _ _ (c .before .before .before .before .before .before .before .before .before .before .before .before .before .before .before .before .before .before .before .before .before .before .before .before .before .before .read-tile-sizes .ensures) table-long (c .before .before .before .before .before .before .before .before .before .before .before .before .before .before .before .test-axes .ensures) (c .before .before .before .before .before .before .before .before .before .before .before .before .before .if1 .left) (c .before .before .before .before .before .before .before .before .before .before .before .spread .ensures))) (c .partition-of .ensures)
 
 pub read-partition-spec : {M : Type 1} → statement M
 read-partition-spec =
     tie.close
     (tie.spec
-    tables-long-requires
-    demand-requires
-    read-tile-sizes-requires
-    sizes-in-tables-requires
-    demand-requires-2
-    read-in-grid-requires
-    partition-of-requires
-    same-length
-    same-length-2
+    (λ c. search needs)
+    (λ c κs. search needs)
+    (λ c. search needs)
+    copy-front-requires
+    (λ c κs. search needs)
+    (λ c κs. search needs)
+    (λ c. search needs)
+    (λ c. search needs)
+    returns
+    (λ c. search needs)
+    spread-requires
+    (λ c. search needs)
+    cast-read-slicing
+    array-share-prefix-row-heights
+    slice-aggregate-read-slicing
+    read-slicing-requires
+    (λ c κs. search needs)
     same-length-3
     same-length-4
-    returns)
+    (λ c. search needs)
+    (λ c. search needs)
+    returns-2)

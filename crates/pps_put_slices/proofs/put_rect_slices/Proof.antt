@@ -4,7 +4,7 @@ use mathlib.Core.List.{[]}
 use native.Mathlib.Omega.{arith}
 use denote.Ref.{now}
 use lib.ListN.{length}
-use Rattle.partition.specs.Grid.{gridOf}
+use Rattle.partition.specs.Grid.{gridWith}
 use Rattle.bit_writer.specs.Writing.{sinkOver}
 use Rattle.pps_syntax.specs.SliceTables.{sliceTables}
 use Rattle.pps_put_slices.specs.Held.{Held, held-begins, held-ends, held-short, held-stops, held-more, held-small, slices-made, slices-none, limited}
@@ -15,7 +15,7 @@ use Rattle.pps_put_slices.proofs.put_rect_slices.Tie as tie
 abbrev Inv-loop : tie.InvT-loop
 Inv-loop out₀ column-widths row-heights deltas-coded n count entries split-heights within ctx cur₀ slice₀ tile₀ i₀ from₀ out cur slice tile i from =
     (length out ≡ length out₀)
-    × Held (gridOf column-widths row-heights) deltas-coded (n .0) (sliceTables entries split-heights) count (sinkOver cur₀ out₀) (sinkOver cur out) (slice .0) (tile .0) i from
+    × Held (gridWith column-widths row-heights) deltas-coded (n .0) (sliceTables entries split-heights) count (sinkOver cur₀ out₀) (sinkOver cur out) (slice .0) (tile .0) i from
 
 abbrev μ-loop : tie.MeasureT-loop
 μ-loop out₀ column-widths row-heights deltas-coded n count entries split-heights within ctx cur₀ slice₀ tile₀ i₀ from₀ out cur slice tile i from = n .0 - i
@@ -63,7 +63,7 @@ returns-3 c =
     let a = (c .before .before .before .before .before .before .before .before .before .before .before .before .before .before .before .before .before .before .before .before .before .before .before .before .args) in
     let H = (c .before .before .before .before .before .before .before .before .before .before .before .before .before .before .before .loop .inv .1) in
     let row = slice-at (sliceTables (a .entries .now) (a .split-heights .now)) (c .before .before .before .before .before .before .before .before .before .before .before .before .before .before .before .loop .i) (H .place) (c .before .before .before .before .before .before .before .before .before .before .entry-at .ensures) (c .before .before .before .before .before .before .before .before .before .split-count .ensures) (H .placeIs) (c .before .before .before .before .before .before .before .before .place-after .ensures) in
-    let E = (c .before .before .before .before .before .put-rect-slice .ensures) (gridOf (a .column-widths .now) (a .row-heights .now)) (H .at .precedingHeightMinus1) (record { columnsAre = refl; rowsAre = refl; heightsAre = refl }) in
+    let E = (c .before .before .before .before .before .put-rect-slice .ensures) (gridWith (a .column-widths .now) (a .row-heights .now)) (H .at .precedingHeightMinus1) (record { columnsAre = refl; rowsAre = refl; heightsAre = refl }) in
     slices-made _ _ _ _ _ _ _ (c .before .before .before .before .before .before .before .before .before .before .before .before .before .before .before .before .before .before .before .within-limits .ensures) (c .before .before .before .before .before .before .before .before .before .before .before .before .before .before .before .before .before .before .demand .ensures _) (held-stops H (c .before .before .before .before .before .before .before .before .before .before .before .before .if2 .taken) (c .before .before .before .before .before .before .before .before .before .before .before .if3 .left) (entry-tabled row E) (c .if4 .taken))
 
 add-i : tie.Need-add-i Inv-loop μ-loop
@@ -77,7 +77,7 @@ loop-again c =
     let a = (c .before .before .before .before .before .before .before .before .before .before .before .before .before .before .before .before .before .before .before .before .before .before .before .before .before .before .args) in
     let H = (c .before .before .before .before .before .before .before .before .before .before .before .before .before .before .before .before .before .loop .inv .1) in
     let row = slice-at (sliceTables (a .entries .now) (a .split-heights .now)) (c .before .before .before .before .before .before .before .before .before .before .before .before .before .before .before .before .before .loop .i) (H .place) (c .before .before .before .before .before .before .before .before .before .before .before .before .entry-at .ensures) (c .before .before .before .before .before .before .before .before .before .before .before .split-count .ensures) (H .placeIs) (c .before .before .before .before .before .before .before .before .before .before .place-after .ensures) in
-    let E = (c .before .before .before .before .before .before .before .put-rect-slice .ensures) (gridOf (a .column-widths .now) (a .row-heights .now)) (H .at .precedingHeightMinus1) (record { columnsAre = refl; rowsAre = refl; heightsAre = refl }) in
+    let E = (c .before .before .before .before .before .before .before .put-rect-slice .ensures) (gridWith (a .column-widths .now) (a .row-heights .now)) (H .at .precedingHeightMinus1) (record { columnsAre = refl; rowsAre = refl; heightsAre = refl }) in
     ((c .before .before .before .before .before .before .before .put-rect-slice .kept .1 .0) ∙ (c .before .before .before .before .before .before .before .before .before .before .before .before .before .before .before .before .before .loop .inv .0), held-more H (c .before .before .before .before .before .before .before .before .before .before .before .before .before .before .if2 .taken) (c .before .before .before .before .before .before .before .before .before .before .before .before .before .if3 .left) (entry-tabled row E) (c .before .before .if4 .left) (c .before .before .before .before .before .before .before .before .before .before .before .split-count .ensures) (c .before .before .before .before .before .before .before .before .before .before .place-after .ensures))
 
 same-length-3 : tie.Need-same-length-3 Inv-loop μ-loop

@@ -1,13 +1,8 @@
 use mathlib.Core.Path.{_∙_}
-use Rattle.pps_read.specs.Cleared.{lengths, cleared-read}
+use Rattle.pps_read.specs.Cleared.{cleared-read}
 use borrow.Author.Needs.{needs}
 use Rattle.pps_read.proofs.read_into_cleared.Statement.{statement}
 use Rattle.pps_read.proofs.read_into_cleared.Tie as tie
-
-read-rbsp-requires : tie.Need-read-rbsp-requires
-read-rbsp-requires c κs =
-    let k = c .before .before .before .before .before .before .before .before .before .before .before .before .before .before .clear-tables .kept in
-    rw (k .1 .0, k .1 .1 .0, k .1 .1 .1 .1 .0) (lengths _ _ _ _ _ (c .before .before .before .before .before .before .before .before .before .before .before .before .before .before .before .before .before .before .before .before .before .before .before .before .before .pre) .long)
 
 same-length : tie.Need-same-length
 same-length c = c .before .before .before .before .before .before .before .before .before .clear-unless .kept .1 .0 ∙ c .before .before .before .before .before .before .before .before .before .before .before .before .before .before .before .before .before .before .before .before .before .before .before .before .before .read-rbsp .kept .1 .0 ∙ c .before .before .before .before .before .before .before .before .before .before .before .before .before .before .before .before .before .before .before .before .before .before .before .before .before .before .before .before .before .before .before .before .before .before .before .before .before .before .before .before .clear-tables .kept .0
@@ -42,7 +37,7 @@ read-into-cleared-spec =
     tie.close
     (tie.spec
     (λ c κs. search needs)
-    read-rbsp-requires
+    (λ c κs. search needs)
     (λ c κs. search needs)
     (λ c κs. search needs)
     same-length

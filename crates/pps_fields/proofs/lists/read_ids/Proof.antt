@@ -1,4 +1,5 @@
--- What is left to be read and stored, from where the loop stands, makes the whole list: `Filling`, with a law for each way through the loop.
+-- What is left to be read and stored, from where the loop stands, makes the whole list: `Filling`, with a law for each
+-- way through the loop.
 use Prim.Native.Nat.{_-_, min}
 use mathlib.Core.Path.{ap}
 use native.Mathlib.Omega.{arith}

@@ -6,7 +6,7 @@ use Rattle.pps_read.proofs.rbsp.read_block.Statement.{statement}
 use Rattle.pps_read.proofs.rbsp.read_block.Tie as tie
 
 returns : tie.Need-returns
-returns c = block-made _ _ _ _ _ _ _ _ _ _ _ _ _ (c .before .before .before .before .before .before .before .before .before .before .before .before .if1 .taken) (c .before .before .before .before .before .before .before .before .before .before .before .before .before .before .before .before .before .pre) (c .before .before .before .before .before .before .before .read-partition .ensures)
+returns c = block-made _ _ _ _ _ _ _ _ _ _ _ _ (c .before .before .before .before .before .before .before .before .before .before .before .before .if1 .taken) (c .before .before .before .before .before .before .before .read-partition .ensures)
 
 returns-2 : tie.Need-returns-2
 unfolding partitionRecord noPartition

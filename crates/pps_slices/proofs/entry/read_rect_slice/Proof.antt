@@ -8,36 +8,6 @@ use borrow.Author.Needs.{needs}
 use Rattle.pps_slices.proofs.entry.read_rect_slice.Statement.{statement}
 use Rattle.pps_slices.proofs.entry.read_rect_slice.Tie as tie
 
-read-width-requires : tie.Need-read-width-requires
-read-width-requires c κs = search needs
-
-read-height-requires : tie.Need-read-height-requires
-read-height-requires c κs = search needs
-
-row-height-requires : tie.Need-row-height-requires
-row-height-requires c κs = search needs
-
-exp-block-requires : tie.Need-exp-block-requires
-exp-block-requires c κs = search needs
-
-read-split-requires : tie.Need-read-split-requires
-read-split-requires c κs = search needs
-
-read-move-requires : tie.Need-read-move-requires
-read-move-requires c κs = search needs
-
-slice-after-requires : tie.Need-slice-after-requires
-slice-after-requires c κs = search needs
-
-flag-of-requires : tie.Need-flag-of-requires
-flag-of-requires c κs = search needs
-
-flag-of-requires-2 : tie.Need-flag-of-requires-2
-flag-of-requires-2 c κs = search needs
-
-same-length : tie.Need-same-length
-same-length c = search needs
-
 returns : tie.Need-returns
 returns c =
     λ g o.
@@ -51,14 +21,14 @@ pub read-rect-slice-spec : {M : Type 1} → statement M
 read-rect-slice-spec =
     tie.close
     (tie.spec
-    read-width-requires
-    read-height-requires
-    row-height-requires
-    exp-block-requires
-    read-split-requires
-    read-move-requires
-    slice-after-requires
-    flag-of-requires
-    flag-of-requires-2
-    same-length
+    (λ c κs. search needs)
+    (λ c κs. search needs)
+    (λ c κs. search needs)
+    (λ c κs. search needs)
+    (λ c κs. search needs)
+    (λ c κs. search needs)
+    (λ c κs. search needs)
+    (λ c κs. search needs)
+    (λ c κs. search needs)
+    (λ c. search needs)
     returns)

@@ -2,7 +2,7 @@ use borrow.Author.Needs.{needs}
 use Prim.Native.Nat.{_-_}
 use mathlib.Core.Path.{refl}
 use native.Mathlib.Omega.{arith}
-use Rattle.partition.specs.Grid.{gridOf as gridFrom}
+use Rattle.partition.specs.Grid.{gridWith}
 use Rattle.question_tests.specs.Refusing.{Refusing, refusing-begins, refusing-late, refusing-stops, refusing-goes-on, refusing-early, refusing-ends, from-within, part-starts, part-ends}
 use Rattle.question_tests.specs.InUse.{tiles-few}
 use Rattle.pps_syntax.specs.SliceTables.{sliceTables}
@@ -11,7 +11,7 @@ use Rattle.question_tests.proofs.walk.walk_refusal.Tie as tie
 
 abbrev Inv-loop : tie.InvT-loop
 Inv-loop column-widths row-heights deltas-on n count entries split-heights ctx slice₀ tile₀ preceding₀ i₀ from₀ slice tile preceding i from =
-    Refusing (gridFrom column-widths row-heights) deltas-on (n .0) (sliceTables entries split-heights) count (slice .0) (tile .0) preceding i from
+    Refusing (gridWith column-widths row-heights) deltas-on (n .0) (sliceTables entries split-heights) count (slice .0) (tile .0) preceding i from
 
 abbrev μ-loop : tie.MeasureT-loop
 μ-loop column-widths row-heights deltas-on n count entries split-heights ctx slice₀ tile₀ preceding₀ i₀ from₀ slice tile preceding i from = count - i
