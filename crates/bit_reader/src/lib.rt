@@ -1,5 +1,5 @@
-// Reading bits (H.266 7.2, 9.2) over a byte slice and a cursor by value. A refusal sticks: once there is one, every reader gives 0 and
-// leaves the cursor as it is, so that code above is a straight line and the first refusal wins.
+// Reading bits (H.266 7.2, 9.2) over a byte slice and a cursor by value. A refusal sticks: once there is one, every
+// reader gives 0 and leaves the cursor as it is, so that code above is a straight line and the first refusal wins.
 ghost use mathlib.Core.Path.{_≡_};
 ghost use Prim.Native.Nat.{_+_, _-_, _*_, _/_, _^_, _≤_, _<_, min};
 ghost use Rattle.codes.specs.Bytes.{bitCount, bitAt, bitsAt};
@@ -9,9 +9,9 @@ ghost use Rattle.bit_reader.specs.Extension.{moreRbspData, extensionBits
 
 pub mod guarded;
 
-// The place of the next bit, counted from the high bit of the first byte, and the number of the first refusal (0: none).
-// It is handed on field by field: a copy of the whole moves its padding too, and in a loop those moves wait for each
-// other.
+// The place of the next bit, counted from the high bit of the first byte, and the number of the first refusal (0:
+// none). It is handed on field by field: a copy of the whole moves its padding too, and in a loop those moves wait for
+// each other.
 #[repr(C)]
 pub struct Cursor {
     pub at: usize,
@@ -316,7 +316,8 @@ pub fn rbsp_trailing_bits(s: &[u8], c: Cursor) -> Cursor
     }
 }
 
-// How many bits are taken while more_rbsp_data() holds: those up to the last 1 bit but one, found by one scan from the end.
+// How many bits are taken while more_rbsp_data() holds: those up to the last 1 bit but one, found by one scan from the
+// end.
 pub fn extension_bits(s: &[u8], at: usize) -> usize
     ensures { λ r. ⌜ r ≡ extensionBits (now (s .entry)) at ⌝ }
 {

@@ -54,7 +54,7 @@ feed-behind (b ∷ bs) w h l =
     ∙ feed-behind bs (holding w (joined (w .sink .cur) b) (w .sink .have + 1)) (omega arith) (omega arith)
     ∙ ap₂ (λ (c n : ℕ). holding w c n) (later-more (w .sink .cur) b bs) (omega arith)
 
-pub feed-open : (b : ℕ) (bs : List ℕ) (w : Writing) → place (w .sink) + suc (length bs) ≤ 7
+feed-open : (b : ℕ) (bs : List ℕ) (w : Writing) → place (w .sink) + suc (length bs) ≤ 7
     → feed w (b ∷ bs) ≡ holding w (later (w .sink .cur) (b ∷ bs)) (place (w .sink) + suc (length bs))
 feed-open b bs w l =
     feed-more w b bs ∙ ap (λ (x : Writing). feed x bs) (bit-open w b (omega arith))

@@ -1,5 +1,6 @@
-// Writing bits (H.266 7.2, 9.2; the Rust's src/bit_writer.rs) into bytes that the caller lends. The sink goes in and comes back by
-// value. It stores only inside the output and counts always, so that a run over an empty output gives the exact length and any refusal.
+// Writing bits (H.266 7.2, 9.2; the Rust's src/bit_writer.rs) into bytes that the caller lends. The sink goes in and
+// comes back by value. It stores only inside the output and counts always, so that a run over an empty output gives the
+// exact length and any refusal.
 ghost use mathlib.Core.Path.{_≡_};
 ghost use mathlib.Core.Bool.{true};
 ghost use mathlib.Core.List.{List, [], _∷_};
@@ -202,7 +203,8 @@ pub fn close(w: Sink, out: &mut [u8]) -> Sink
     finish(t, out)
 }
 
-// What a writer answers after a run over an empty output: the refusal, 29 if the bytes need more than `room`, or their number.
+// What a writer answers after a run over an empty output: the refusal, 29 if the bytes need more than `room`, or their
+// number.
 pub fn answer(w: Sink, room: usize) -> ByteCount
     ensures { λ r. ⌜ r ≡ answerOf w room ⌝ }
 {

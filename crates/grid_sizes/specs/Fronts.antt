@@ -1,15 +1,15 @@
 -- The columns and rows of a grid in the fronts of its tables, and the fronts of lent tables.
-use Prim.Native.Nat.{ℕ, _-_, _≤_, min}
-use mathlib.Core.Path.{_≡_, refl, sym, ap, _∙_}
+use Prim.Native.Nat.{ℕ, _-_, _*_, _≤_, min}
+use mathlib.Core.Path.{_≡_, refl, sym, ap, ap₂, _∙_}
 use mathlib.Core.List.{List}
 use mathlib.Core.Bool.{Bool, true, false}
+use native.Mathlib.Nat.{mul-le-mul-left}
 use native.Mathlib.Omega.{arith}
 use lib.Dec.{leb}
 use lib.ListN.{length, take}
 use lib.Seq.{take-append-seam, take-all, take-length, length-take-le}
 use borrow.Author.Tests.{leb-true, leb-false}
-use Rattle.partition.specs.Grid.{Grid, gridWith, columns, rows, maxTileColumns, maxTiles}
-use Rattle.tile_sizes.specs.Limits.{withinLimits, limits-held}
+use Rattle.partition.specs.Grid.{Grid, gridWith, columns, rows, tiles, maxTileColumns, maxTiles}
 use Rattle.tile_sizes.specs.Padded.{zeros, tableOf}
 use Rattle.grid_sizes.specs.declared.GridSizes.{GridSizes}
 
@@ -17,25 +17,10 @@ use Rattle.grid_sizes.specs.declared.GridSizes.{GridSizes}
 abbrev pub gridIn : GridSizes → Grid
 gridIn s = gridWith (take (s .«num_tile_columns») (s .«column_widths»)) (take (s .«num_tile_rows») (s .«row_heights»))
 
--- the type of the code holds this grid
-pub record GridIs (g : Grid) (sizes : GridSizes) : Type 0 where
-  pub columnsAre : sizes .«num_tile_columns» ≡ columns g
-  pub rowsAre : sizes .«num_tile_rows» ≡ rows g
-  pub widthsAre : sizes .«column_widths» ≡ tableOf maxTileColumns (g .columnWidths)
-  pub heightsAre : sizes .«row_heights» ≡ tableOf maxTiles (g .rowHeights)
-
 -- ---- the fronts of its tables
 pub front-is : (n : ℕ) (ss l : List ℕ) (k : ℕ) → k ≡ length ss → l ≡ tableOf n ss → take k l ≡ ss
 unfolding tableOf
 front-is n ss l k e f = rw (f, e) (take-append-seam ss (zeros (n - length ss)))
-
-pub front-long : (k n : ℕ) (l : List ℕ) → length l ≡ n → k ≤ n → k ≡ length (take k l)
-front-long k n l e h = sym (length-take-le k l (omega arith))
-
-pub limits-fronts : (a b : ℕ) (k l : List ℕ) → length k ≡ maxTileColumns → length l ≡ maxTiles → withinLimits a b ≡ true → withinLimits (length (take a k)) (length (take b l)) ≡ true
-limits-fronts a b k l e f h =
-    let x = limits-held a b h in
-    rw (← front-long a maxTileColumns k e (x .few), ← front-long b maxTiles l f (x .low)) h
 
 -- ---- of a lent table
 pub take-most : (n : ℕ) (l : List ℕ) → take (min n (length l)) l ≡ take n l
@@ -50,3 +35,39 @@ take-most n l = cases (leb n (length l)) refl
 -- it is as long as it says
 pub front-length : (n a : ℕ) (l : List ℕ) → a ≡ min n (length l) → a ≡ length (take a l)
 front-length n a l e = sym (length-take-le a l (omega arith))
+
+-- ---- the columns and rows in use
+-- The first `columns` and `rows` of the tables that hold a grid are in use.
+pub record InUse (s : GridSizes) (columns rows : ℕ) : Type 0 where
+  pub few : columns ≤ maxTileColumns
+  pub low : rows ≤ maxTiles
+  pub columnsAre : columns ≡ length (take columns (s .«column_widths»))
+  pub rowsAre : rows ≡ length (take rows (s .«row_heights»))
+  pub tiled : rows * columns ≡ tiles (gridIn s)
+  pub grid : gridWith (take columns (s .«column_widths»)) (take rows (s .«row_heights»)) ≡ gridIn s
+
+-- the counts, held to the tables
+pub in-use : (s : GridSizes) (columns rows : ℕ)
+    → length (s .«column_widths») ≡ maxTileColumns → length (s .«row_heights») ≡ maxTiles
+    → columns ≡ min (s .«num_tile_columns») maxTileColumns → rows ≡ min (s .«num_tile_rows») maxTiles
+    → InUse s columns rows
+in-use s columns rows l m c r =
+    let a : columns ≡ min (s .«num_tile_columns») (length (s .«column_widths»)) = c ∙ rw l in
+    let b : rows ≡ min (s .«num_tile_rows») (length (s .«row_heights»)) = r ∙ rw m in
+    let k = front-length _ columns (s .«column_widths») a in
+    let i = front-length _ rows (s .«row_heights») b in
+    let x = take-most (s .«num_tile_columns») (s .«column_widths») in
+    let y = take-most (s .«num_tile_rows») (s .«row_heights») in
+    let g : gridWith (take columns (s .«column_widths»)) (take rows (s .«row_heights»)) ≡ gridIn s = rw (a, b, x, y) in
+    record {
+      few = omega arith;
+      low = omega arith;
+      columnsAre = k;
+      rowsAre = i;
+      tiled = ap₂ (λ (u v : ℕ). u * v) i k ∙ ap tiles g;
+      grid = g;
+    }
+
+-- tiles are counted in 32 bits
+pub tiles-few : (C R : ℕ) → C ≤ maxTileColumns → R ≤ maxTiles → R * C ≤ 4294967295
+tiles-few C R a b = let h : R * C ≤ R * maxTileColumns = mul-le-mul-left R a in omega arith

@@ -5,7 +5,6 @@ use Prim.Native.Nat.{ℕ, zero, suc, _-_}
 use lib.Dec.{lit<}
 use lib.ListN.{length, getD}
 use Rattle.partition.specs.Checks.{Outcome, fine, refusedWith, firstBad, numberOf, Numbered, zero-fine}
-use Rattle.partition.specs.Entry.{tileRowHeight}
 use Rattle.partition.specs.Partition.{tileGrid, explicitChecks, axisChecks, gridChecks}
 use Rattle.tile_sizes.specs.Padded.{zeros, tableOf}
 use Rattle.grid_sizes.specs.Answers.{gridOfSizes, refusedSizes, sizesFor, gridSizes}
@@ -27,10 +26,6 @@ table-at n ss i = go ss i
     go [] i = zeros-at (n - length ss) i
     go (s ∷ l) zero = refl
     go (s ∷ l) (suc i) = go l i
-
-pub table-row-height : (n : ℕ) (rowHeights : List ℕ) (columns t : ℕ) → tileRowHeight (tableOf n rowHeights) columns t ≡ tileRowHeight rowHeights columns t
-unfolding tileRowHeight
-table-row-height n hs columns t = table-at n hs _
 
 -- ---- the grid
 

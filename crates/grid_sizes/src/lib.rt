@@ -23,7 +23,8 @@ pub struct GridSizes {
     pub row_heights: [u32; MAX_TILES as usize],
 }
 
-// A refusal, or 0 and the sizes, which stand first: a copy of 4 KB by 4 bytes off a multiple of 4,096 takes 1.1 µs, and 0.05 else.
+// A refusal, or 0 and the sizes, which stand first: a copy of 4 KB by 4 bytes off a multiple of 4,096 takes 1.1 µs, and
+// 0.05 else.
 pub struct SizesAnswer {
     pub sizes: GridSizes,
     pub refused: u8,
@@ -70,7 +71,8 @@ fn accepted_sizes(
     SizesAnswer { refused: 0, sizes }
 }
 
-// The sizes of the tile grid of a picture of so many luma samples, from its explicit tile sizes (minus 1); or 9, 10, 11, 12 or 13.
+// The sizes of the tile grid of a picture of so many luma samples, from its explicit tile sizes (minus 1); or 9, 10,
+// 11, 12 or 13.
 pub fn grid_sizes(
     pic_width_in_luma_samples: u32,
     pic_height_in_luma_samples: u32,

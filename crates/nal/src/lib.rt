@@ -1,4 +1,5 @@
-// Escaping and unescaping of a NAL unit's payload (H.266 7.3.1.1, 7.4.2.1; the Rust's src/nal.rs), between bytes that the caller lends.
+// Escaping and unescaping of a NAL unit's payload (H.266 7.3.1.1, 7.4.2.1; the Rust's src/nal.rs), between bytes that
+// the caller lends.
 ghost use mathlib.Core.Path.{_≡_};
 ghost use Prim.Native.Nat.{_≤_};
 ghost use lib.Dec.{leb};
@@ -50,7 +51,8 @@ pub fn ebsp_to_rbsp(ebsp: &[u8], out: &mut [u8]) -> ByteCount
     ByteCount::Bytes(put)
 }
 
-// Puts the escape bytes into a payload. Refusals: 3 if it is too long, 29 if the output is shorter than the escaped bytes.
+// Puts the escape bytes into a payload. Refusals: 3 if it is too long, 29 if the output is shorter than the escaped
+// bytes.
 pub fn rbsp_to_ebsp(rbsp: &[u8], out: &mut [u8]) -> ByteCount
     ensures { λ r. ⌜ r ≡ escapeAnswer (now (rbsp .entry)) (now (out .entry)) ⌝ }
     ensures { λ _. ⌜ now (out .exit) ≡ escapeOut (now (rbsp .entry)) (now (out .entry)) ⌝ }

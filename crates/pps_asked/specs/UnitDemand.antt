@@ -29,7 +29,7 @@ use Rattle.syntax.specs.Elements.{isSet}
 use Rattle.tile_grid.specs.declared.CoverAnswer.{CoverAnswer}
 use Rattle.tile_grid.specs.declared.CoverAnswer.the-variants.{Refused, NoPlan}
 use Rattle.grid_sizes.specs.Answers.{gridOfSizes}
-use Rattle.tile_grid.specs.Answers.{gridHeld}
+use Rattle.tile_grid.specs.Answers.{asTileGrid}
 use Rattle.tile_grid.specs.AskedDemand.{declinedLayout, partitionAsked, asked-accepted, asked-one-tile, asked-limits}
 use Rattle.tile_grid.specs.GridQuestion.{sizesOf, gridAnswerOf}
 use Rattle.tile_grid.specs.PlanDemand.{asked-slice-count, asked-slices-inside, asked-no-block-in-two, asked-cover-exactly}
@@ -47,7 +47,7 @@ no-refusal : (n : ℕ) → NoPlan ≡ Refused n → ⊥
 no-refusal n e = let z : _≡_ {A = ℕ} 0 1 = cc in omega arith
 
 all-answer : (l : Layout) → declinedLayout l ≡ false → AllAnswer l
-unfolding sizesOf gridHeld gridOfSizes planAnswerOf declinedWith RightAnswer RightCover coverNamed
+unfolding sizesOf asTileGrid gridOfSizes planAnswerOf declinedWith RightAnswer RightCover coverNamed
 all-answer (declined n) e = absurd (let z : _≡_ {A = ℕ} 0 1 = cc in omega arith)
 all-answer (unsliced g) e = record { grid = refl; plan = refl; cover = λ c h n q. no-refusal n (sym h ∙ q) }
 all-answer (sliced g ps) e = record { grid = refl; plan = refl; cover = λ c h n q. rw q at h }
@@ -94,11 +94,11 @@ module _ (nal work : List ℕ) (t : Lent) (pps : VvcPps) (triples : List VvcQpOf
     there : pps .partition .present ≡ 0 → ⊥
     there = there-where (pps .partition .present) (pps .«pps_no_pic_partition_flag») flagged parted
 
-    said : Accepted p × (gridAnswerOf l ≡ gridHeld (gridOfSizes (g .columnWidths) (g .rowHeights)))
+    said : Accepted p × (gridAnswerOf l ≡ asTileGrid (gridOfSizes (g .columnWidths) (g .rowHeights)))
     said = asked-accepted pps tables there (unit-answered nal work t pps triples taken left tables u)
 
     -- the grid question answers with that grid, which makes up the picture
-    pub unit-grid : gridAnswerOf l ≡ gridHeld (gridOfSizes (g .columnWidths) (g .rowHeights))
+    pub unit-grid : gridAnswerOf l ≡ asTileGrid (gridOfSizes (g .columnWidths) (g .rowHeights))
     unit-grid = said .1
 
     pub unit-picture-size : (picWidth g ≡ inCtbs (pps .«pps_pic_width_in_luma_samples») (pps .partition .«pps_log2_ctu_size_minus5»))

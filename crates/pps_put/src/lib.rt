@@ -1,4 +1,5 @@
-// Writing the groups of fields of a picture parameter set (H.266 7.3.2.5; write_pps of the Rust's src/h266/pps.rs), each as its description says.
+// Writing the groups of fields of a picture parameter set (H.266 7.3.2.5; write_pps of the Rust's src/h266/pps.rs),
+// each as its description says.
 ghost use mathlib.Core.Path.{_≡_};
 ghost use Rattle.bit_writer.specs.Writing.{sinkOver, play};
 ghost use Rattle.syntax.specs.Syntax.{symbolsFor};

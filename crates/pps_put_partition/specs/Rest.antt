@@ -1,10 +1,10 @@
 -- What stands behind the grid, and the whole block, as code comes to them.
-use Prim.Native.Nat.{ℕ, zero, suc, _*_, _/_, _≤_, _<_, min}
+use Prim.Native.Nat.{ℕ, zero, suc, _≤_, _<_, min}
 use mathlib.Core.Path.{_≡_, refl, sym, ap, ap₂, _∙_}
 use mathlib.Core.List.{List, [], _∷_}
 use mathlib.Core.Bool.{Bool, true, false, not, _&&_}
 use native.Mathlib.Omega.{arith}
-use lib.Dec.{eqb, ltb, leb, lit<}
+use lib.Dec.{eqb, ltb}
 use lib.ListN.{length, take, length-take}
 use borrow.Author.Tests.{eqb-true, eqb-false, eq-eqb, ne-eqb}
 use Rattle.codes.specs.Coded.{flagBit, onlyIf}
@@ -12,10 +12,9 @@ use Rattle.codes.specs.Symbols.{Symbol, putting, check, check-true, first, firs
 use Rattle.bit_writer.specs.Writing.{Writing, play, withRefusal, feed}
 use Rattle.bit_writer.specs.Played.{played, feed-refusal}
 use Rattle.codes.specs.Symbols as symbols
-use Rattle.partition.specs.Grid.{Grid, columns, rows, maxTileColumns, maxTiles, gridWith}
-use Rattle.partition.specs.Partition.{inCtbs, tileGrid}
-use Rattle.partition.specs.Sizes.{sum, explicitSizes, axisSizes}
-use Rattle.grid_sizes.specs.declared.GridSizes.{GridSizes}
+use Rattle.partition.specs.Entry.{firstPosition}
+use Rattle.partition.specs.Grid.{Grid, maxTileColumns, maxTiles, gridWith}
+use Rattle.partition.specs.Partition.{tileGrid}
 use Rattle.grid_sizes.specs.declared.SizesAnswer.{SizesAnswer}
 use Rattle.grid_sizes.specs.Answers.{gridSizes, gridOfSizes}
 use Rattle.grid_sizes.specs.Laws.{grid-sizes}
@@ -25,15 +24,12 @@ use Rattle.syntax.specs.Lists.{not-true}
 use Rattle.syntax.specs.Syntax.{symbolsFor}
 use Rattle.pps_syntax.specs.FromRecord.{lent, blockFrom}
 use Rattle.pps_syntax.specs.PartitionSyntax.{PartitionBlock, partition, several, rectFlag, slicesMinus1}
-use Rattle.pps_syntax.specs.SliceSyntax.{RectSlice}
+use Rattle.pps_syntax.specs.SliceSyntax.{RectSlice, rectSlices}
 use Rattle.pps_syntax.specs.SliceTables.{SliceTables, slicesFrom}
-use Rattle.tile_sizes.specs.Limits.{withinLimits}
-use Rattle.grid_sizes.specs.Fronts.{GridIs, front-is, take-most}
+use Rattle.grid_sizes.specs.Fronts.{gridIn, front-is, take-most}
 use Rattle.pps_syntax.specs.SliceFlags.{SliceFlags, codes}
-use Rattle.pps_put_slices.specs.Stop.{upToRefusal, playOn, on-check, on-play, passed}
+use Rattle.pps_put_slices.specs.Stop.{upToRefusal, playOn, on-play, passed}
 use Rattle.pps_put_slices.specs.StopSteps.{tested}
-use Rattle.pps_put_slices.specs.PartsMade.{none-before}
-use Rattle.pps_put_slices.specs.Held.{slicesSymbols}
 use Rattle.pps_put_partition.specs.Puts.{tilesPut, gridPut, flagsPut, slicesPut, restPut, block-put, rest-refused}
 use Rattle.pps_put_partition.specs.Made.{flag-if}
 use Rattle.pps_put_partition.specs.GridTests.{grid-put}
@@ -81,34 +77,29 @@ flags-made several f w {a} {b} {c} {d} {e} p q r s t =
     flag-if d (codes f && ltb 1 (f .«pps_num_slices_in_pic_minus1»)) _ t
     ∙ ap (λ (x : Writing). playOn x (flagIf (codes f && ltb 1 (f .«pps_num_slices_in_pic_minus1»)) .symbols (f .«pps_tile_idx_delta_present_flag»))) s₄
 
-pub slices-coded : (w : Writing) (ws hs : List ℕ) (on deltas : Bool) (N : ℕ) (rs : List RectSlice) {x : Writing} → withinLimits (length ws) (length hs) ≡ true → on ≡ true → x ≡ playOn w (slicesSymbols ws hs deltas N rs)
-    → x ≡ slicesPut (gridWith ws hs) on deltas N rs w
-unfolding slicesPut slicesSymbols orElse
-slices-coded w ws hs on deltas N rs l e h = h ∙ rw (e, check-true (withinLimits (length ws) (length hs)) 13 l)
+pub slices-coded : (w : Writing) (g : Grid) (on deltas : Bool) (N : ℕ) (rs : List RectSlice) {x : Writing} → on ≡ true
+    → x ≡ playOn w (rectSlices g deltas N firstPosition .symbols rs) → x ≡ slicesPut g on deltas N rs w
+unfolding slicesPut orElse
+slices-coded w g on deltas N rs e h = h ∙ rw e
 
 pub slices-absent : (w : Writing) (g : Grid) (on deltas : Bool) (N count : ℕ) (t : SliceTables) {x : Writing} → on ≡ false → x ≡ play w (check (eqb count 0) 26) → x ≡ slicesPut g on deltas N (slicesFrom t 0 0 count) w
 unfolding slicesPut orElse slicesFrom
 slices-absent w g on deltas N zero t e h = rw e (tested w 26 refl h ∙ ap (playOn w) (check-true true 26 refl))
 slices-absent w g on deltas N (suc n) t e h = rw e (tested w 26 (ne-eqb (suc n) 0 (λ z. omega arith)) h)
 
-pub rest-made : (g : Grid) (several : Bool) (f : SliceFlags) (rs : List RectSlice) (across : ℕ) (w : Writing) {a b c : Writing} → a ≡ flagsPut several f w
+pub rest-made : (g : Grid) (f : SliceFlags) (rs : List RectSlice) (across : ℕ) (w : Writing) {many : Bool} {a b c : Writing} → many ≡ several g → a ≡ flagsPut many f w
     → b ≡ slicesPut g (codes f) (isSet (f .«pps_tile_idx_delta_present_flag»)) (f .«pps_num_slices_in_pic_minus1») rs a → c ≡ playOn b (bitIf (not (codes f && eqb (f .«pps_num_slices_in_pic_minus1») 0)) across)
-    → c ≡ restPut g several f rs across w
+    → c ≡ restPut g (several g) f rs across w
 unfolding restPut
-rest-made g several f rs across w {a} {b} p q r =
+rest-made g f rs across w {many} {a} {b} m p q r =
     flag-if b (not (codes f && eqb (f .«pps_num_slices_in_pic_minus1») 0)) across r
     ∙ ap (λ (x : Writing). playOn x (flagIf (not (codes f && eqb (f .«pps_num_slices_in_pic_minus1») 0)) .symbols across))
-    (q ∙ ap (slicesPut g (codes f) (isSet (f .«pps_tile_idx_delta_present_flag»)) (f .«pps_num_slices_in_pic_minus1») rs) p)
+    (q ∙ ap (slicesPut g (codes f) (isSet (f .«pps_tile_idx_delta_present_flag»)) (f .«pps_num_slices_in_pic_minus1») rs) (p ∙ ap (λ (x : Bool). flagsPut x f w) m))
 
--- the fronts of the grid's tables are its sizes
-pub rest-in : (g : Grid) (sizes : GridSizes) (f : SliceFlags) (rs : List RectSlice) (across : ℕ) (w : Writing) {v : Writing} → GridIs g sizes
-    → v ≡ restPut (gridWith (take (sizes .«num_tile_columns») (sizes .«column_widths»)) (take (sizes .«num_tile_rows») (sizes .«row_heights»))) (ltb 1 (sizes .«num_tile_rows» * sizes .«num_tile_columns»)) f rs across w
-    → v ≡ restPut g (several g) f rs across w
-rest-in g sizes f rs across w i r =
-    let ws = front-is maxTileColumns (g .columnWidths) (sizes .«column_widths») (sizes .«num_tile_columns») (i .columnsAre) (i .widthsAre) in
-    let hs = front-is maxTiles (g .rowHeights) (sizes .«row_heights») (sizes .«num_tile_rows») (i .rowsAre) (i .heightsAre) in
-    let many : ltb 1 (sizes .«num_tile_rows» * sizes .«num_tile_columns») ≡ several g = rw (i .columnsAre, i .rowsAre) in
-    r ∙ ap₂ (λ (x : Grid) (b : Bool). restPut x b f rs across w) (ap₂ gridWith ws hs) many
+-- the grid that sizes made from it hold
+sizes-back : (ws hs : List ℕ) → gridIn (gridOfSizes ws hs .sizes) ≡ gridWith ws hs
+unfolding gridOfSizes
+sizes-back ws hs = ap₂ gridWith (front-is maxTileColumns ws _ _ refl refl) (front-is maxTiles hs _ _ refl refl)
 
 module _ (W H : ℕ) (p : VvcPpsPartition) (ws hs : List ℕ) (rs : List RectSlice) (w : Writing) {a b : Writing} {r : SizesAnswer}
     (tilesAre : a ≡ tilesPut W H (p .«pps_log2_ctu_size_minus5») ws hs w) (answerIs : r ≡ gridSizes W H (p .«pps_log2_ctu_size_minus5») ws hs)
@@ -128,9 +119,6 @@ module _ (W H : ℕ) (p : VvcPpsPartition) (ws hs : List ℕ) (rs : List RectSli
   pub block-stops : (b .sink .refused ≡ 0 → ⊥) → b ≡ playOn w (symbolsFor (partition W H) (blockWith p ws hs rs))
   block-stops h = sym (rest-refused g (several g) (flagsOf p) rs (p .«pps_loop_filter_across_slices_enabled_flag») b h) ∙ ap rest tested-grid ∙ block-put W H (blockWith p ws hs rs) w
 
-  pub block-goes : {v : Writing} → v ≡ rest b → v ≡ playOn w (symbolsFor (partition W H) (blockWith p ws hs rs))
-  block-goes e = e ∙ ap rest tested-grid ∙ block-put W H (blockWith p ws hs rs) w
-
   accepted : b .sink .refused ≡ 0 → r .refused ≡ 0
   accepted z = cases (eqb (r .refused) 0) refl made
     where
@@ -143,33 +131,16 @@ module _ (W H : ℕ) (p : VvcPpsPartition) (ws hs : List ℕ) (rs : List RectSli
           above (suc n) q = omega arith
 
   -- unless that is refused, the answer is the grid
-  pub grid-held : b .sink .refused ≡ 0 → GridIs g (r .sizes)
-  unfolding gridOfSizes
+  grid-held : b .sink .refused ≡ 0 → gridIn (r .sizes) ≡ g
   grid-held z =
-      let e : r ≡ gridOfSizes (g .columnWidths) (g .rowHeights) = answerIs ∙ grid-sizes W H ctu ws hs (sym (ap (λ (x : SizesAnswer). x .refused) answerIs) ∙ accepted z) in
-      record {
-        columnsAre = ap (λ (x : SizesAnswer). x .sizes .«num_tile_columns») e;
-        rowsAre = ap (λ (x : SizesAnswer). x .sizes .«num_tile_rows») e;
-        widthsAre = ap (λ (x : SizesAnswer). x .sizes .«column_widths») e;
-        heightsAre = ap (λ (x : SizesAnswer). x .sizes .«row_heights») e;
-      }
+      let fine = sym (ap (λ (x : SizesAnswer). x .refused) answerIs) ∙ accepted z in
+      ap (λ (x : SizesAnswer). gridIn (x .sizes)) (answerIs ∙ grid-sizes W H ctu ws hs fine) ∙ sizes-back (g .columnWidths) (g .rowHeights)
 
-  -- and it is within its limits
-  pub grid-limits : b .sink .refused ≡ 0 → withinLimits (r .sizes .«num_tile_columns») (r .sizes .«num_tile_rows») ≡ true
-  unfolding gridPut withinLimits tileGrid
-  grid-limits z =
-      let G = grid-held z in
-      let t = tilesPut W H ctu ws hs w in
-      let k₁ = playOn t (check (leb (sum (explicitSizes ws)) (inCtbs W ctu)) 12) in
-      let k₂ = playOn k₁ (check (leb (length (axisSizes ws (inCtbs W ctu))) maxTileColumns) 13) in
-      let k₃ = playOn k₂ (check (leb (sum (explicitSizes hs)) (inCtbs H ctu)) 12) in
-      let ok₄ = leb (length (axisSizes hs (inCtbs H ctu))) (maxTiles / length (axisSizes ws (inCtbs W ctu))) in
-      let z₄ : playOn k₃ (check ok₄ 13) .sink .refused ≡ 0 = sym (ap (λ (x : Writing). x .sink .refused) tested-grid) ∙ z in
-      let z₃ = none-before k₃ (check ok₄ 13) refl z₄ in
-      let z₂ = none-before k₂ (check (leb (sum (explicitSizes hs)) (inCtbs H ctu)) 12) refl z₃ in
-      let p₄ = passed k₃ ok₄ 13 (lit< tt) (on-check k₃ ok₄ 13) z₄ .0 in
-      let p₂ = passed k₁ (leb (length (axisSizes ws (inCtbs W ctu))) maxTileColumns) 13 (lit< tt) (on-check k₁ (leb (length (axisSizes ws (inCtbs W ctu))) maxTileColumns) 13) z₂ .0 in
-      rw (G .columnsAre, G .rowsAre, p₂, p₄)
+  abbrev restIn : Grid → Writing → Writing
+  restIn x = restPut x (several x) (flagsOf p) rs (p .«pps_loop_filter_across_slices_enabled_flag»)
+
+  pub block-goes : {v : Writing} → b .sink .refused ≡ 0 → v ≡ restIn (gridIn (r .sizes)) b → v ≡ playOn w (symbolsFor (partition W H) (blockWith p ws hs rs))
+  block-goes z e = e ∙ ap (λ (x : Grid). restIn x b) (grid-held z) ∙ ap rest tested-grid ∙ block-put W H (blockWith p ws hs rs) w
 
 -- ---- beside an earlier refusal: the block is put up to its own
 pub outer : (W : Writing) (xs : List Symbol) {v : Writing} → v ≡ playOn (withRefusal W 0) xs → withRefusal v (first (W .sink .refused) (v .sink .refused)) ≡ play W (upToRefusal xs)

@@ -18,7 +18,7 @@ use bit_writer::demand;
 use grid_sizes::grid_sizes;
 use pps_record::VvcPpsPartition;
 use pps_tables::ENTRY_LEN;
-use slicing::put_in_grid;
+use slicing::put_slicing;
 use tables::places::at_most;
 use tiles::put_tile_sizes;
 
@@ -89,7 +89,7 @@ fn put_block(
         return b;
     }
     let sizes = answer.sizes;
-    put_in_grid(b, out, sizes, p, entries, split_heights)
+    put_slicing(b, out, sizes, p, entries, split_heights)
 }
 
 // The partition block of a picture of so many luma samples, up to its first refusal: 9 to 19, 25, 26 in the order of

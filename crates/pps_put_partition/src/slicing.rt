@@ -1,14 +1,10 @@
 // The partition block behind its grid: the flags that say how slices are coded, the slices, and the last flag (H.266
 // 7.3.2.5).
 ghost use mathlib.Core.Path.{_≡_};
-ghost use mathlib.Core.Bool.{true};
-ghost use lib.ListN.{length};
 ghost use Rattle.bit_writer.specs.Writing.{sinkOver};
-ghost use Rattle.partition.specs.Grid.{Grid, gridWith};
+ghost use Rattle.grid_sizes.specs.Fronts.{gridIn};
 ghost use Rattle.pps_syntax.specs.SliceTables.{slicesFrom};
 ghost use Rattle.pps_tables.specs.Parameters.{slicesBefore};
-ghost use Rattle.tile_sizes.specs.Limits.{withinLimits};
-ghost use Rattle.grid_sizes.specs.Fronts.{GridIs};
 ghost use Rattle.pps_syntax.specs.PartitionSyntax.{several};
 ghost use Rattle.pps_put_partition.specs.Puts.{flagsPut, slicesPut, restPut};
 ghost use Rattle.pps_put_partition.specs.Rest.{flagsOf};
@@ -22,6 +18,18 @@ use pps_put_slices::put_rect_slices;
 use pps_record::VvcPpsPartition;
 use pps_tables::ENTRY_LEN;
 use slice_loop::SliceIdx;
+use tables::places::at_most;
+use tile_sizes::MAX_TILE_COLUMNS;
+use tile_sizes::MAX_TILES;
+
+// The grid has more than one tile.
+fn several_tiles(sizes: GridSizes) -> bool
+    ensures { λ r. ⌜ r ≡ several (gridIn sizes) ⌝ }
+{
+    let columns = at_most(sizes.num_tile_columns, MAX_TILE_COLUMNS as usize);
+    let rows = at_most(sizes.num_tile_rows, MAX_TILES as usize);
+    rows as u64 * columns as u64 > 1
+}
 
 fn put_flags(w: Sink, out: &mut [u8], several: bool, p: VvcPpsPartition) -> Sink
     ensures { λ r. ⌜ sinkOver r (now (out .exit)) ≡ flagsPut several (flagsOf p) (sinkOver w (now (out .entry))) ⌝ }
@@ -41,28 +49,24 @@ fn put_coded_slices(
     w: Sink,
     out: &mut [u8],
     coded: bool,
-    column_widths: &[u32],
-    row_heights: &[u32],
+    sizes: GridSizes,
     deltas_coded: bool,
     n: u32,
     count: u32,
     entries: &[[u32; ENTRY_LEN]],
     split_heights: &[u32],
 ) -> Sink
-    requires { ⌜ withinLimits (length (now «column_widths»)) (length (now «row_heights»)) ≡ true ⌝ }
     ensures { λ r.
-        let g = gridWith (now («column_widths» .entry)) (now («row_heights» .entry)) in
         let slices = slicesFrom (slicesBefore entries «split_heights») 0 0 count in
         ⌜ sinkOver r (now (out .exit))
-        ≡ slicesPut g coded «deltas_coded» n slices (sinkOver w (now (out .entry))) ⌝ }
+        ≡ slicesPut (gridIn sizes) coded «deltas_coded» n slices (sinkOver w (now (out .entry))) ⌝ }
 {
     if coded {
         let last = SliceIdx(n);
         return put_rect_slices(
             w,
             out,
-            column_widths,
-            row_heights,
+            sizes,
             deltas_coded,
             last,
             count,
@@ -73,34 +77,31 @@ fn put_coded_slices(
     demand(w, count == 0, 26)
 }
 
-// All that stands behind the grid, whose column widths and row heights are lent.
-fn put_slicing(
+// All that stands behind the grid.
+pub fn put_slicing(
     w: Sink,
     out: &mut [u8],
-    several: bool,
+    sizes: GridSizes,
     p: VvcPpsPartition,
-    column_widths: &[u32],
-    row_heights: &[u32],
     entries: &[[u32; ENTRY_LEN]],
     split_heights: &[u32],
 ) -> Sink
-    requires { ⌜ withinLimits (length (now «column_widths»)) (length (now «row_heights»)) ≡ true ⌝ }
     ensures { λ r.
-        let g = gridWith (now («column_widths» .entry)) (now («row_heights» .entry)) in
+        let g = gridIn sizes in
         let slices = slicesFrom (slicesBefore entries «split_heights») 0 0 (p .«num_rect_slices») in
         ⌜ sinkOver r (now (out .exit))
-        ≡ restPut g several (flagsOf p) slices (p .«pps_loop_filter_across_slices_enabled_flag»)
+        ≡ restPut g (several g) (flagsOf p) slices (p .«pps_loop_filter_across_slices_enabled_flag»)
         (sinkOver w (now (out .entry))) ⌝ }
 {
     let coded = (p.pps_rect_slice_flag != 0) & (p.pps_single_slice_per_subpic_flag == 0);
     let n = p.pps_num_slices_in_pic_minus1;
+    let several = several_tiles(sizes);
     let f = put_flags(w, out, several, p);
     let s = put_coded_slices(
         f,
         out,
         coded,
-        column_widths,
-        row_heights,
+        sizes,
         p.pps_tile_idx_delta_present_flag != 0,
         n,
         p.num_rect_slices,
@@ -109,37 +110,4 @@ fn put_slicing(
     );
     let one = coded & (n == 0);
     put_flag_if(s, out, !one, p.pps_loop_filter_across_slices_enabled_flag)
-}
-
-// The same over the sizes of a grid.
-pub fn put_in_grid(
-    w: Sink,
-    out: &mut [u8],
-    sizes: GridSizes,
-    p: VvcPpsPartition,
-    entries: &[[u32; ENTRY_LEN]],
-    split_heights: &[u32],
-) -> Sink
-    requires { ⌜ withinLimits (sizes .«num_tile_columns») (sizes .«num_tile_rows») ≡ true ⌝ }
-    ensures { λ r.
-        let slices = slicesFrom (slicesBefore entries «split_heights») 0 0 (p .«num_rect_slices») in
-        ⌜ ((g : Grid) → GridIs g sizes → sinkOver r (now (out .exit))
-        ≡ restPut g (several g) (flagsOf p) slices (p .«pps_loop_filter_across_slices_enabled_flag»)
-        (sinkOver w (now (out .entry)))) ⌝ }
-{
-    let several = sizes.num_tile_rows as u64 * sizes.num_tile_columns as u64 > 1;
-    let columns = sizes.num_tile_columns as usize;
-    let rows = sizes.num_tile_rows as usize;
-    let column_widths = sizes.column_widths;
-    let row_heights = sizes.row_heights;
-    put_slicing(
-        w,
-        out,
-        several,
-        p,
-        &column_widths[..columns],
-        &row_heights[..rows],
-        entries,
-        split_heights,
-    )
 }

@@ -5,13 +5,13 @@ use mathlib.Core.List.{List, [], _∷_, _++_}
 use mathlib.Core.Bool.{Bool, true, false}
 use native.Mathlib.Nat.{sub-zero}
 use native.Mathlib.Omega.{arith}
-use lib.Dec.{ltb, leb, lit<}
+use lib.Dec.{ltb, leb}
 use lib.ListN.{length}
 use borrow.Author.Tests.{lt-ltb, le-ltb, le-leb, lt-leb, leb-true, leb-false}
 use Rattle.codes.specs.Symbols.{Symbol, check, check-true}
 use Rattle.bit_writer.specs.Writing.{Writing, play}
 use Rattle.partition.specs.Entry.{Position, firstPosition}
-use Rattle.partition.specs.Grid.{Grid, gridWith}
+use Rattle.partition.specs.Grid.{Grid}
 use Rattle.partition.specs.Walk.{onward}
 use Rattle.syntax.specs.Elements.{orElse}
 use Rattle.syntax.specs.Lists.{walk}
@@ -21,14 +21,9 @@ use Rattle.pps_syntax.specs.SliceTables.{SliceTables, sliceAt, slicesFrom, spli
 use Rattle.pps_lent.specs.Tables.{splitTables, same-count}
 use Rattle.pps_syntax.specs.WalkAccepted.{turnsLeft, moves-on}
 use Rattle.slice_loop.specs.Loop.{position, Follows}
-use Rattle.tile_sizes.specs.Limits.{withinLimits, Limited, limits-held}
-use Rattle.pps_put_slices.specs.Stop.{playOn, on-append, on-refused, on-then, passed}
+use Rattle.pps_put_slices.specs.Stop.{playOn, on-append, on-refused}
 use Rattle.pps_put_slices.specs.StopSteps.{tested}
 use Rattle.pps_put_slices.specs.EntryPut.{EntryPut}
-
--- the slices of a picture with this grid; 13 for a grid over its limits
-unfoldable pub slicesSymbols : List ℕ → List ℕ → Bool → ℕ → List RectSlice → List Symbol
-slicesSymbols ws hs deltas N rs = check (withinLimits (length ws) (length hs)) 13 ++ rectSlices (gridWith ws hs) deltas N firstPosition .symbols rs
 
 module _ (g : Grid) (deltas : Bool) (N : ℕ) where
   -- ---- the turns of the loop
@@ -162,15 +157,7 @@ module _ {g : Grid} {deltas : Bool} {N : ℕ} {t : SliceTables} {count : ℕ} {w
   pub held-small : slice < N → i < N
   held-small go = omega (arith, H .few, H .follows .sliceIs)
 
--- ---- the start
-module _ (ws hs : List ℕ) (deltas : Bool) (N : ℕ) (t : SliceTables) (count : ℕ) (w : Writing) {within : Bool} {a : Writing} (e : within ≡ withinLimits (length ws) (length hs)) (h : a ≡ play w (check within 13)) where
-  pub slices-made : {v : Writing} → v ≡ wholeLoop (gridWith ws hs) deltas N t count a → v ≡ playOn w (slicesSymbols ws hs deltas N (slicesFrom t 0 0 count))
-  unfolding slicesSymbols
-  slices-made q = on-then w _ _ (tested w 13 e h) q
-
-  pub slices-none : (a .sink .refused ≡ 0 → ⊥) → a ≡ playOn w (slicesSymbols ws hs deltas N (slicesFrom t 0 0 count))
-  slices-none z = slices-made (sym (on-refused a _ z))
-
--- a start that is not refused
-pub limited : (columns rows : ℕ) (w : Writing) {within : Bool} {a : Writing} → within ≡ withinLimits columns rows → a ≡ play w (check within 13) → a .sink .refused ≡ 0 → Limited columns rows
-limited columns rows w {within} e h z = limits-held columns rows (sym e ∙ passed w within 13 (lit< tt) h z .0)
+-- over the same grid
+pub in-grid : {g h : Grid} (deltas : Bool) (N : ℕ) (t : SliceTables) (count : ℕ) (w : Writing) {v : Writing} → g ≡ h
+    → v ≡ wholeLoop g deltas N t count w → v ≡ wholeLoop h deltas N t count w
+in-grid deltas N t count w q e = e ∙ ap (λ (x : Grid). wholeLoop x deltas N t count w) q

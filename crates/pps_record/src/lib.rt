@@ -1,5 +1,6 @@
-// The picture parameter set as a record (the structs of the Rust's src/h266/pps.rs), for C and Rust to hold. An Option is a block with a
-// presence flag, a Vec a count beside a lent table. A flag is 0 or 1 where reading gives it; writing takes all but 0 for 1.
+// The picture parameter set as a record (the structs of the Rust's src/h266/pps.rs), for C and Rust to hold. An Option
+// is a block with a presence flag, a Vec a count beside a lent table. A flag is 0 or 1 where reading gives it; writing
+// takes all but 0 for 1.
 ghost use mathlib.Core.Path.{_≡_};
 ghost use Rattle.pps_record.specs.Absent.{noPartition};
 ghost use Rattle.pps_record.specs.Ctbs.{ctbsOf};
@@ -37,7 +38,8 @@ pub struct VvcPpsSubpicIdMapping {
     pub num_subpic_ids: u32,
 }
 
-// The explicit tile sizes and the slice entries are the first so many of their tables; the split heights are taken by the entries in order.
+// The explicit tile sizes and the slice entries are the first so many of their tables; the split heights are taken by
+// the entries in order.
 #[repr(C)]
 pub struct VvcPpsPartition {
     pub present: u8,
@@ -128,7 +130,8 @@ pub enum Ctbs {
     Refused(u8),
 }
 
-// A length of a picture in CTBs: 9 where a partition has a CTU size field over 2; blocks of 1,024 samples without a partition.
+// A length of a picture in CTBs: 9 where a partition has a CTU size field over 2; blocks of 1,024 samples without a
+// partition.
 fn pic_ctbs(samples: u32, partition_present: u8, log2_ctu_size_minus5: u8) -> Ctbs
     ensures { λ r. ⌜ r ≡ ctbsOf samples «partition_present» «log2_ctu_size_minus5» ⌝ }
 {

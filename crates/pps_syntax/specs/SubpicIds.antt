@@ -4,6 +4,7 @@ use mathlib.Core.Path.{refl}
 use mathlib.Core.List.{List}
 use mathlib.Core.Bool.{Bool, cond, _&&_}
 use lib.Dec.{leb, lit<}
+use Rattle.partition.specs.Grid.{maxSlicesMinus1, maxSlices}
 use Rattle.syntax.specs.Element.{Element}
 use Rattle.syntax.specs.Elements.{u, flag, ue, limited, absent, sameℕ, orElse, isSet}
 use Rattle.syntax.specs.Lists.{many, none}
@@ -16,12 +17,12 @@ pub record SubpicIds : Type 0 where
   pub «pps_subpic_id_len_minus1» : ℕ
   pub «pps_subpic_id» : List ℕ
 
--- the most subpictures that a set can map, and so the length of the table of their ids
+-- the most subpictures that a set can map, and so the length of the table of their ids: the limit of slices, as in the Rust
 abbrev pub maxSubpicsMinus1 : ℕ
-maxSubpicsMinus1 = 999
+maxSubpicsMinus1 = maxSlicesMinus1
 
 abbrev pub maxSubpics : ℕ
-maxSubpics = 1000
+maxSubpics = maxSlices
 
 -- The count is coded in a partitioned picture, else 0 is inferred and writing any other is refused with 26. Writing refuses another number of ids, or an id too
 -- large for its length, with 27. A length minus 1 over 15 is refused with 8; an id behind that refusal is taken as 16 bits long

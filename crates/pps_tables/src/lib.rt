@@ -8,7 +8,8 @@ ghost use Rattle.pps_syntax.specs.FromRecord.{lengthsFit};
 ghost use Rattle.pps_tables.specs.Rows.{entryOf, noEntry};
 use pps_record::lengths;
 
-// The test of 5, by the lengths of the lent tables in the order in which they are lent: a table may be longer than stated.
+// The test of 5, by the lengths of the lent tables in the order in which they are lent: a table may be longer than
+// stated.
 pub fn tables_long(
     subpic_ids: usize,
     tile_column_widths: usize,

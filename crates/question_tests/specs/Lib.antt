@@ -1,5 +1,4 @@
 pub mod Questions
-pub mod InUse
 pub mod Steps
 pub mod Tables
 pub mod Walking

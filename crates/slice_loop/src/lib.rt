@@ -1,4 +1,5 @@
-// The steps of the slice loop, and the types of its numbers (H.266 7.3.2.5, 7.4.3.5, 6.5.1): total, for tiles in and out of the grid.
+// The steps of the slice loop, and the types of its numbers (H.266 7.3.2.5, 7.4.3.5, 6.5.1): total, for tiles in and
+// out of the grid.
 ghost use mathlib.Core.Path.{_≡_};
 ghost use Prim.Native.Nat.{_+_, _-_, _*_};
 ghost use lib.Dec.{ltb};

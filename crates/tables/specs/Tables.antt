@@ -61,10 +61,6 @@ module _ {A : Type 0} where
   sets-append [] ys t i = rw add-zero
   sets-append (x ∷ xs) ys t i = rw (add-suc, ← suc-add) (sets-append xs ys (set t i x) (suc i))
 
-  pub sets-none : (xs : List A) (i : ℕ) → _≡_ {A = List A} (sets [] i xs) []
-  sets-none [] i = refl
-  sets-none (x ∷ xs) i = sets-none xs (suc i)
-
   pub over-length : (xs t : List A) → length xs ≤ length t → length (over xs t) ≡ length t
   unfolding over
   over-length xs t h = front-length xs t (length xs) refl h

@@ -5,8 +5,8 @@ use Rattle.grid_sizes.specs.declared.SizesAnswer.{SizesAnswer}
 use Rattle.grid_sizes.specs.Answers.{gridSizes}
 use Rattle.tile_grid.specs.declared.GridAnswer.{GridAnswer}
 
-unfoldable pub gridHeld : SizesAnswer → GridAnswer
-gridHeld a =
+unfoldable pub asTileGrid : SizesAnswer → GridAnswer
+asTileGrid a =
     record {
       refused = a .refused;
       grid =
@@ -20,4 +20,4 @@ gridHeld a =
 
 -- from explicit sizes (minus 1): a refusal with its number, or 0 and the grid
 unfoldable pub gridAnswer : ℕ → ℕ → ℕ → List ℕ → List ℕ → GridAnswer
-gridAnswer width height ctu ws hs = gridHeld (gridSizes width height ctu ws hs)
+gridAnswer width height ctu ws hs = asTileGrid (gridSizes width height ctu ws hs)

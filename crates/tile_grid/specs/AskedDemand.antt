@@ -19,7 +19,7 @@ use Rattle.pps_syntax.specs.FromRecord.{Lent, blockFrom, partitionFrom}
 use Rattle.pps_syntax.specs.PartitionSyntax.{partitionOf}
 use Rattle.question_tests.specs.Questions.{recordChecks, pictureLayout, layoutAsked}
 use Rattle.grid_sizes.specs.Answers.{gridOfSizes}
-use Rattle.tile_grid.specs.Answers.{gridHeld}
+use Rattle.tile_grid.specs.Answers.{asTileGrid}
 use Rattle.tile_grid.specs.GridQuestion.{ofRecord, answer-unsliced, answer-sliced}
 
 -- The partition that a record and its tables say.
@@ -59,12 +59,12 @@ module _ (r : VvcPps) (t : Lent) (there : r .partition .present ≡ 0 → ⊥) w
   asked-is e = kept (firstBad (recordChecks r t)) _ e ∙ there-block
 
   -- "every record that the questions accept": its partition is accepted, and the grid question answers with its grid
-  pub asked-accepted : declinedLayout (layoutAsked r t) ≡ false → Accepted p × (ofRecord r t ≡ gridHeld (gridOfSizes (gridOf p .columnWidths) (gridOf p .rowHeights)))
+  pub asked-accepted : declinedLayout (layoutAsked r t) ≡ false → Accepted p × (ofRecord r t ≡ asTileGrid (gridOfSizes (gridOf p .columnWidths) (gridOf p .rowHeights)))
   asked-accepted e = split (accepted-or-declined p)
     where
-      split : Accepted p ⊎ ((n : ℕ) × (layout asking p ≡ declined n)) → Accepted p × (ofRecord r t ≡ gridHeld (gridOfSizes (gridOf p .columnWidths) (gridOf p .rowHeights)))
-      split (inl (without-slices q)) = (without-slices q, rw (asked-is e, q) (ap gridHeld (answer-unsliced (gridOf p))))
-      split (inl (with-slices ps q)) = (with-slices ps q, rw (asked-is e, q) (ap gridHeld (answer-sliced (gridOf p) ps)))
+      split : Accepted p ⊎ ((n : ℕ) × (layout asking p ≡ declined n)) → Accepted p × (ofRecord r t ≡ asTileGrid (gridOfSizes (gridOf p .columnWidths) (gridOf p .rowHeights)))
+      split (inl (without-slices q)) = (without-slices q, rw (asked-is e, q) (ap asTileGrid (answer-unsliced (gridOf p))))
+      split (inl (with-slices ps q)) = (with-slices ps q, rw (asked-is e, q) (ap asTileGrid (answer-sliced (gridOf p) ps)))
       split (inr d) = absurd (let z : declinedLayout (declined (d .0)) ≡ false = ap declinedLayout (sym (asked-is e ∙ d .1)) ∙ e in let w : _≡_ {A = ℕ} 0 1 = cc in omega arith)
 
   -- each of its blocks lies in exactly one tile, of at most 30 columns and 990 tiles

@@ -12,7 +12,7 @@ use Rattle.pps_syntax.specs.BlockRefusal.{declinedWith}
 use Rattle.pps_syntax.specs.FromRecord.{Lent}
 use Rattle.question_tests.specs.Questions.{layoutAsked}
 use Rattle.tile_grid.specs.declared.GridAnswer.{GridAnswer}
-use Rattle.tile_grid.specs.Answers.{gridHeld}
+use Rattle.tile_grid.specs.Answers.{asTileGrid}
 
 -- A refusal with its number, or 0 and the sizes; of no columns and no rows where the picture is unpartitioned.
 unfoldable pub sizesOf : Layout → SizesAnswer
@@ -21,7 +21,7 @@ sizesOf (unsliced g) = gridOfSizes (g .columnWidths) (g .rowHeights)
 sizesOf (sliced g ps) = gridOfSizes (g .columnWidths) (g .rowHeights)
 
 abbrev pub gridAnswerOf : Layout → GridAnswer
-gridAnswerOf l = gridHeld (sizesOf l)
+gridAnswerOf l = asTileGrid (sizesOf l)
 
 -- what `TileGrid::of_record` answers
 abbrev pub ofRecord : VvcPps → Lent → GridAnswer

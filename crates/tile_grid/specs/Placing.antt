@@ -46,7 +46,7 @@ module _ {ws hs cs rs : List ℕ} (C : StartsAt ws cs) (R : StartsAt hs rs) (x y
   unfolding span
   down = rw (R .each y (omega arith), R .each (y + h) tall)
 
-  pub rows-some : 1 ≤ h → getD rs y 0 < getD rs (y + h) 0
+  rows-some : 1 ≤ h → getD rs y 0 < getD rs (y + h) 0
   rows-some s =
       let e : suc y + (h - 1) ≡ y + h = omega arith in
       omega (

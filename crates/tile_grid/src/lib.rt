@@ -4,7 +4,7 @@ ghost use mathlib.Core.Path.{_≡_};
 ghost use Rattle.partition.specs.Partition.{Layout};
 ghost use Rattle.pps_tables.specs.Parameters.{before};
 ghost use Rattle.question_tests.specs.Questions.{layoutAsked};
-ghost use Rattle.tile_grid.specs.Answers.{gridHeld, gridAnswer};
+ghost use Rattle.tile_grid.specs.Answers.{asTileGrid, gridAnswer};
 ghost use Rattle.tile_grid.specs.Covered.{Coverable};
 ghost use Rattle.tile_grid.specs.GridQuestion.{sizesOf, ofRecord};
 ghost use Rattle.tile_grid.specs.InGrid.{gridAsked};
@@ -71,7 +71,7 @@ pub enum CoverAnswer {
 
 // The grid of sizes that were counted.
 fn held(a: SizesAnswer) -> GridAnswer
-    ensures { λ r. ⌜ r ≡ gridHeld a ⌝ }
+    ensures { λ r. ⌜ r ≡ asTileGrid a ⌝ }
 {
     let sizes = a.sizes;
     let column_widths = sizes.column_widths;

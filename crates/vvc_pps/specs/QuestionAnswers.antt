@@ -39,5 +39,5 @@ coverHeld (cover.Double t) = record { kind = 3; refused = 0; tile = t .0 }
 coverHeld (cover.Refused k) = record { kind = 4; refused = k; tile = 0 }
 
 -- It holds one of the right answers to the cover question.
-abbrev pub Holds : (CoverAnswer → Type 0) → VvcCoverAnswer → Type 0
-Holds Right r = (c : CoverAnswer) × (Right c × (r ≡ coverHeld c))
+abbrev pub HeldBy : (CoverAnswer → Type 0) → VvcCoverAnswer → Type 0
+HeldBy Right r = (c : CoverAnswer) × (Right c × (r ≡ coverHeld c))

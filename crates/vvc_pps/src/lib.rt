@@ -1,5 +1,5 @@
-// The C interface, include/vvc_pps.h: each function calls the library's of the same name. A slice crosses as a pointer
-// and a length; an answer as a struct with the number of the refusal, 0 where there is none, beside the values.
+// The C interface, include/vvc_pps.h: each function is a call of one of the library's. A slice crosses as a pointer and
+// a length; an answer as a struct with the number of the refusal, 0 where there is none, beside the values.
 ghost use mathlib.Core.Path.{_≡_};
 ghost use Prim.Native.Nat.{min};
 ghost use Rattle.nal.specs.Answers.{unescapeAnswer, unescapeOut, escapeAnswer, escapeOut};

@@ -4,7 +4,7 @@ ghost use mathlib.Core.Path.{_≡_};
 ghost use Rattle.pps_tables.specs.Parameters.{before};
 ghost use Rattle.tile_grid.specs.GridQuestion.{ofRecord};
 ghost use Rattle.tile_grid.specs.PlanQuestion.{slicePlan, SliceCover};
-ghost use Rattle.vvc_pps.specs.QuestionAnswers.{gridHeld, planHeld, coverHeld, Holds};
+ghost use Rattle.vvc_pps.specs.QuestionAnswers.{gridHeld, planHeld, coverHeld, HeldBy};
 use pps_record::VvcPps;
 use pps_tables::ENTRY_LEN;
 use tile_grid::CoverAnswer;
@@ -176,7 +176,7 @@ pub extern "C" fn vvc_cover(
 ) -> VvcCoverAnswer
     ensures { λ r.
         let given = before «subpic_ids» «tile_column_widths» «tile_row_heights» entries «split_heights» in
-        ⌜ Holds (SliceCover pps given) r ⌝ }
+        ⌜ HeldBy (SliceCover pps given) r ⌝ }
 {
     of_cover(TileGrid::slice_cover(
         pps,

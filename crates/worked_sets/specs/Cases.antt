@@ -54,7 +54,7 @@ use Rattle.syntax.specs.Lists.{many, walk as walkElement}
 use Rattle.syntax.specs.Syntax.{_>>=_, parse}
 use Rattle.tables.specs.Tables.{over}
 use Rattle.grid_sizes.specs.Answers.{gridOfSizes, refusedSizes, sizesFor, gridSizes}
-use Rattle.tile_grid.specs.Answers.{gridHeld, gridAnswer}
+use Rattle.tile_grid.specs.Answers.{asTileGrid, gridAnswer}
 use Rattle.tile_grid.specs.GridQuestion.{sizesOf, gridAnswerOf}
 use Rattle.tile_grid.specs.PlanQuestion.{planAnswerOf}
 use Rattle.tile_grid.specs.declared.GridAnswer.{GridAnswer}
@@ -153,10 +153,10 @@ plans n ss =
     }
 
 abbrev gridAnswered : List ℕ → List ℕ → GridAnswer
-gridAnswered columns rows = gridHeld (gridOfSizes columns rows)
+gridAnswered columns rows = asTileGrid (gridOfSizes columns rows)
 
 abbrev declines : ℕ → Outcome
-declines n = answers (gridHeld (refusedSizes n)) (plans n []) [] noPlan
+declines n = answers (asTileGrid (refusedSizes n)) (plans n []) [] noPlan
 
 -- an output of 5 bytes to escape into
 abbrev room : List ℕ
@@ -176,7 +176,7 @@ cases =
     ∷ example (reading (0x00 ∷ 0x81 ∷ [])) (refuses 7)
     -- Tiles. 10 CTBs: explicit 3 gives 3, 3, 3, 1; 5, 6 gives 12
     ∷ example (tiling 320 32 0 (2 ∷ []) (0 ∷ [])) (grids (gridAnswered (3 ∷ 3 ∷ 3 ∷ 1 ∷ []) (1 ∷ [])))
-    ∷ example (tiling 320 32 0 (4 ∷ 5 ∷ []) (0 ∷ [])) (grids (gridHeld (refusedSizes 12)))
+    ∷ example (tiling 320 32 0 (4 ∷ 5 ∷ []) (0 ∷ [])) (grids (asTileGrid (refusedSizes 12)))
     -- Slices in a tile. A row of 7 CTBs: heights 3, 2 give three slices; 4, 4 gives 16
     ∷ example (splitting (2 ∷ 1 ∷ []) 7) (splits (record { refused = 0; «num_slices» = 3 }))
     ∷ example (splitting (3 ∷ 3 ∷ []) 7) (splits (record { refused = 16; «num_slices» = 0 }))
@@ -202,5 +202,5 @@ cases =
 
 -- every input comes to what is wanted
 pub all-cases : map (λ (e : Example). outcome (e .input)) cases ≡ map (λ (e : Example). e .wanted) cases
-unfolding cases outcome extensionOf slicesOfTiles coverFor places ones takenWhileMore extensionBits unlessRefused onward uRead stops zerosAt ueAfter ueWithin ueRead seRead trailingRead demanded bitAt bitsAt bitList signedOf outAfter escapeAnswer escapeOut zeroRun isEscape needsEscape unescapeFrom unescape escapeByte escapeRun escapeEnd escapeFrom escape boundary span firstBad tileX tileY tileRowHeight inLastRow heightCoded inheritedHeight splitCoded splitHeights numSlicesInTile lastSliceOf someAtLeast defaultAdvance tileAfterDelta deltaLeaves deltaRefused deltaUncodable nextTile nextPosition sizeChecks inheritedChecks splitChecks moveChecks entryChecks upTo stacked groupSlices plan groupsAt groupsAtTile orAt lowest answer lowestCover coverOf inCtbs tileGrid explicitChecks axisChecks gridChecks gridOf gridChecksOf slicesCoded deltaFlagChecks partitionChecks fromWalk unless layout planOf sum explicitSizes uniformSize tailSize uniformSizes axisSizes among sliceHeightsOf entryGroup lastGroup after walk answerOf afterFields parsePps noPartition chroma deblocking partitionFrom extensionFrom lengthsFit countsFit head confWin scalingWin kind partition partitionOf pictureHeader front back pps extensionFor answered readRbsp beforeFields rbspOf partitionRecord recordOf references rectSlices splitCount sliceAt slicesFrom splitTotal bitsOfDelta deltaOfBits subpicIds flagOver1 recordChecks noTiles pictureLayout layoutAsked orElse many walkElement _>>=_ parse over sizesFor gridSizes gridHeld gridAnswer sizesOf planAnswerOf declinedWith slicesInTile
+unfolding cases outcome extensionOf slicesOfTiles coverFor places ones takenWhileMore extensionBits unlessRefused onward uRead stops zerosAt ueAfter ueWithin ueRead seRead trailingRead demanded bitAt bitsAt bitList signedOf outAfter escapeAnswer escapeOut zeroRun isEscape needsEscape unescapeFrom unescape escapeByte escapeRun escapeEnd escapeFrom escape boundary span firstBad tileX tileY tileRowHeight inLastRow heightCoded inheritedHeight splitCoded splitHeights numSlicesInTile lastSliceOf someAtLeast defaultAdvance tileAfterDelta deltaLeaves deltaRefused deltaUncodable nextTile nextPosition sizeChecks inheritedChecks splitChecks moveChecks entryChecks upTo stacked groupSlices plan groupsAt groupsAtTile orAt lowest answer lowestCover coverOf inCtbs tileGrid explicitChecks axisChecks gridChecks gridOf gridChecksOf slicesCoded deltaFlagChecks partitionChecks fromWalk unless layout planOf sum explicitSizes uniformSize tailSize uniformSizes axisSizes among sliceHeightsOf entryGroup lastGroup after walk answerOf afterFields parsePps noPartition chroma deblocking partitionFrom extensionFrom lengthsFit countsFit head confWin scalingWin kind partition partitionOf pictureHeader front back pps extensionFor answered readRbsp beforeFields rbspOf partitionRecord recordOf references rectSlices splitCount sliceAt slicesFrom splitTotal bitsOfDelta deltaOfBits subpicIds flagOver1 recordChecks noTiles pictureLayout layoutAsked orElse many walkElement _>>=_ parse over sizesFor gridSizes asTileGrid gridAnswer sizesOf planAnswerOf declinedWith slicesInTile
 all-cases = refl

@@ -1,4 +1,5 @@
 use borrow.Author.Needs.{needs}
+use Rattle.partition.specs.Grid.{maxTileColumns, maxTiles}
 use Rattle.tile_sizes.specs.Padded.{filled-table}
 use Rattle.grid_sizes.proofs.Fill.{grid-made}
 use Rattle.grid_sizes.proofs.accepted_sizes.Statement.{statement}
@@ -17,7 +18,7 @@ sizes-into-requires-2 : tie.Need-sizes-into-requires-2
 sizes-into-requires-2 c κs = search needs
 
 returns : tie.Need-returns
-returns c = grid-made _ _ _ _ _ _ (c .before .before .before .before .before .before .before .before .pre .0 .counted) (c .before .before .before .before .before .before .before .before .pre .1 .counted) (filled-table 30 _ _ (c .before .before .before .before .sizes-into .ensures)) (filled-table 990 _ _ (c .before .sizes-into2 .ensures))
+returns c = grid-made _ _ _ _ _ _ (c .before .before .before .before .before .before .before .before .pre .0 .counted) (c .before .before .before .before .before .before .before .before .pre .1 .counted) (filled-table maxTileColumns _ _ (c .before .before .before .before .sizes-into .ensures)) (filled-table maxTiles _ _ (c .before .sizes-into2 .ensures))
 
 pub accepted-sizes-spec : {M : Type 1} → statement M
 accepted-sizes-spec =

@@ -1,6 +1,6 @@
+use borrow.Author.Needs.{needs}
 use mathlib.Core.Path.{_∙_}
-use mathlib.Core.List.{[]}
-use Rattle.pps_put_partition.specs.Rest.{block-stops, block-goes, grid-held, grid-limits}
+use Rattle.pps_put_partition.specs.Rest.{block-stops, block-goes}
 use Rattle.pps_put_partition.proofs.put_block.Statement.{statement}
 use Rattle.pps_put_partition.proofs.put_block.Tie as tie
 
@@ -13,17 +13,13 @@ same-length c = (c .before .before .before .before .before .before .before .put-
 returns : tie.Need-returns
 returns c = block-stops _ _ (c .before .before .before .before .before .before .before .before .before .before .before .before .before .args .p) _ _ _ _ (c .before .before .before .before .before .before .before .put-tile-sizes .ensures) (c .before .before .before .before .grid-sizes .ensures) (c .before .before .demand .ensures _) (c .if1 .taken)
 
-put-in-grid-requires : tie.Need-put-in-grid-requires
-put-in-grid-requires c κs = grid-limits _ _ (c .before .before .before .before .before .before .before .before .before .before .before .before .before .before .before .args .p) _ _ [] _ (c .before .before .before .before .before .before .before .before .before .put-tile-sizes .ensures) (c .before .before .before .before .before .before .grid-sizes .ensures) (c .before .before .before .before .demand .ensures _) (c .before .before .if1 .left)
-
 same-length-2 : tie.Need-same-length-2
-same-length-2 c = (c .before .before .put-in-grid .kept .1 .0) ∙ (c .before .before .before .before .before .before .before .before .before .before .before .before .put-tile-sizes .kept .1 .0)
+same-length-2 c = (c .before .before .put-slicing .kept .1 .0) ∙ (c .before .before .before .before .before .before .before .before .before .before .before .before .put-tile-sizes .kept .1 .0)
 
 returns-2 : tie.Need-returns-2
 returns-2 c =
     let p = (c .before .before .before .before .before .before .before .before .before .before .before .before .before .before .before .before .before .before .args .p) in
-    let held = grid-held _ _ p _ _ [] _ (c .before .before .before .before .before .before .before .before .before .before .before .before .put-tile-sizes .ensures) (c .before .before .before .before .before .before .before .before .before .grid-sizes .ensures) (c .before .before .before .before .before .before .before .demand .ensures _) (c .before .before .before .before .before .if1 .left) in
-    block-goes _ _ p _ _ _ _ (c .before .before .before .before .before .before .before .before .before .before .before .before .put-tile-sizes .ensures) (c .before .before .before .before .before .before .before .before .before .grid-sizes .ensures) (c .before .before .before .before .before .before .before .demand .ensures _) (c .before .before .put-in-grid .ensures _ held)
+    block-goes _ _ p _ _ _ _ (c .before .before .before .before .before .before .before .before .before .before .before .before .put-tile-sizes .ensures) (c .before .before .before .before .before .before .before .before .before .grid-sizes .ensures) (c .before .before .before .before .before .before .before .demand .ensures _) (c .before .before .before .before .before .if1 .left) (c .before .before .put-slicing .ensures)
 
 pub put-block-spec : {M : Type 1} → statement M
 put-block-spec =
@@ -34,6 +30,6 @@ put-block-spec =
     (λ _ _. tt)
     same-length
     returns
-    put-in-grid-requires
+    (λ c κs. search needs)
     same-length-2
     returns-2)

@@ -1,119 +1,58 @@
-use Prim.Native.Nat.{_<_, _*_, _-_, _^_}
-use mathlib.Core.Path.{_≡_, refl, _∙_}
-use mathlib.Core.List.{[]}
+use borrow.Author.Needs.{needs}
+use mathlib.Core.Path.{_≡_}
 use native.Mathlib.Omega.{arith}
-use denote.Ref.{now}
 use lib.ListN.{length}
-use Rattle.partition.specs.Grid.{gridWith}
-use Rattle.bit_writer.specs.Writing.{sinkOver}
+use Rattle.grid_sizes.specs.Fronts.{in-use}
+use Rattle.partition.specs.Grid.{maxTileColumns, maxTiles}
 use Rattle.pps_syntax.specs.SliceTables.{sliceTables}
-use Rattle.pps_put_slices.specs.Held.{Held, held-begins, held-ends, held-short, held-stops, held-more, held-small, slices-made, slices-none, limited}
-use Rattle.pps_put_slices.specs.Tabled.{part-within, part-few, slice-at, entry-tabled}
+use Rattle.pps_put_slices.specs.Held.{in-grid}
 use Rattle.pps_put_slices.proofs.put_rect_slices.Statement.{statement}
 use Rattle.pps_put_slices.proofs.put_rect_slices.Tie as tie
 
-abbrev Inv-loop : tie.InvT-loop
-Inv-loop out₀ column-widths row-heights deltas-coded n count entries split-heights within ctx cur₀ slice₀ tile₀ i₀ from₀ out cur slice tile i from =
-    (length out ≡ length out₀)
-    × Held (gridWith column-widths row-heights) deltas-coded (n .0) (sliceTables entries split-heights) count (sinkOver cur₀ out₀) (sinkOver cur out) (slice .0) (tile .0) i from
+array-share-prefix-column-widths : tie.Need-array-share-prefix-column-widths
+array-share-prefix-column-widths c =
+    let l : length (c .before .before .before .before .before .before .before .args .sizes .«column_widths») ≡ maxTileColumns = search needs in
+    omega (arith, (c .before .before .before .before .at-most .ensures))
 
-abbrev μ-loop : tie.MeasureT-loop
-μ-loop out₀ column-widths row-heights deltas-coded n count entries split-heights within ctx cur₀ slice₀ tile₀ i₀ from₀ out cur slice tile i from = n .0 - i
+slice-aggregate-put-entries : tie.Need-slice-aggregate-put-entries
+slice-aggregate-put-entries c =
+    let u = in-use (c .before .before .before .before .before .before .before .before .args .sizes) _ _ (search needs) (search needs) (c .before .before .before .before .before .at-most .ensures) (c .before .before .before .before .at-most2 .ensures) in
+    u .columnsAre
 
-returns : tie.Need-returns Inv-loop μ-loop
-returns c = slices-none _ _ _ _ _ _ _ (c .before .before .before .within-limits .ensures) (c .before .before .demand .ensures _) (c .if1 .taken)
+array-share-prefix-row-heights : tie.Need-array-share-prefix-row-heights
+array-share-prefix-row-heights c =
+    let m : length (c .before .before .before .before .before .before .before .before .args .sizes .«row_heights») ≡ maxTiles = search needs in
+    omega (arith, (c .before .before .before .before .at-most2 .ensures))
 
-cast-t25 : tie.Need-cast-t25 Inv-loop μ-loop
-cast-t25 c = omega (arith, limited _ _ _ (c .before .before .before .within-limits .ensures) (c .before .before .demand .ensures []) (c .if1 .left) .few)
+slice-aggregate-put-entries-2 : tie.Need-slice-aggregate-put-entries-2
+slice-aggregate-put-entries-2 c =
+    let u = in-use (c .before .before .before .before .before .before .before .before .before .args .sizes) _ _ (search needs) (search needs) (c .before .before .before .before .before .before .at-most .ensures) (c .before .before .before .before .before .at-most2 .ensures) in
+    u .rowsAre
 
-cast-t26 : tie.Need-cast-t26 Inv-loop μ-loop
-cast-t26 c = omega (arith, limited _ _ _ (c .before .before .before .within-limits .ensures) (c .before .before .demand .ensures []) (c .if1 .left) .low)
+put-entries-requires : tie.Need-put-entries-requires
+put-entries-requires c κs =
+    let u = in-use (c .before .before .before .before .before .before .before .before .before .args .sizes) _ _ (search needs) (search needs) (c .before .before .before .before .before .before .at-most .ensures) (c .before .before .before .before .before .at-most2 .ensures) in
+    (omega (arith, u .few, u .columnsAre), omega (arith, u .low, u .rowsAre))
 
-loop-holds : tie.Need-loop-holds Inv-loop μ-loop
-loop-holds c = (refl, held-begins _ _ _ _ _ _)
-
-same-length : tie.Need-same-length Inv-loop μ-loop
-same-length c = (c .before .before .before .before .before .loop .inv .0)
-
-returns-2 : tie.Need-returns-2 Inv-loop μ-loop
-returns-2 c = slices-made _ _ _ _ _ _ _ (c .before .before .before .before .before .before .before .before .before .within-limits .ensures) (c .before .before .before .before .before .before .before .before .demand .ensures _) (held-short (c .before .before .before .before .before .loop .inv .1) (c .before .before .if2 .taken) (c .before .if3 .taken) (c .demand2 .ensures _))
-
-mul-put-rect-slice : tie.Need-mul-put-rect-slice Inv-loop μ-loop
-mul-put-rect-slice c =
-    let l : length (now (c .before .before .before .before .before .before .before .before .before .before .before .before .before .before .before .before .before .args .split-heights)) * 4 < 2 ^ 63 = (c .before .before .before .before .before .before .before .before .before .before .before .before .before .before .before .before .before .good .1 .1 .1 .1 .1 .1 .1 .1 .0 .1) in
-    omega (arith, (c .before .before .before .before .before .before .before .before .loop .inv .1 .placeIs))
-
-sub-put-rect-slice : tie.Need-sub-put-rect-slice Inv-loop μ-loop
-sub-put-rect-slice c = omega (arith, (c .before .before .before .before .before .before .before .before .loop .inv .1 .placeIs), (c .before .place-after .ensures))
-
-part-put-rect-slice-end : tie.Need-part-put-rect-slice-end Inv-loop μ-loop
-part-put-rect-slice-end c = part-within _ _ _ _ (c .before .place-after .ensures)
-
-put-rect-slice-requires : tie.Need-put-rect-slice-requires Inv-loop μ-loop
-put-rect-slice-requires c κs =
-    let l = limited _ _ _ (c .before .before .before .before .before .before .before .before .before .before .before .before .before .within-limits .ensures) (c .before .before .before .before .before .before .before .before .before .before .before .before .demand .ensures []) (c .before .before .before .before .before .before .before .before .before .before .if1 .left) .tilesFit in
-    let few = part-few (c .before .before .before .before .before .before .before .before .before .before .before .before .before .before .before .before .before .before .args .split-heights .now) _ (c .before .before .before .before .before .before .before .before .before .loop .from) _ _ (c .before .before .place-after .ensures) in
-    (omega (arith, few), omega (arith, l))
-
-same-length-2 : tie.Need-same-length-2 Inv-loop μ-loop
-same-length-2 c = (c .before .before .before .before .before .put-rect-slice .kept .1 .0) ∙ (c .before .before .before .before .before .before .before .before .before .before .before .before .before .before .before .loop .inv .0)
-
-returns-3 : tie.Need-returns-3 Inv-loop μ-loop
-returns-3 c =
-    let a = (c .before .before .before .before .before .before .before .before .before .before .before .before .before .before .before .before .before .before .before .before .before .before .before .before .args) in
-    let H = (c .before .before .before .before .before .before .before .before .before .before .before .before .before .before .before .loop .inv .1) in
-    let row = slice-at (sliceTables (a .entries .now) (a .split-heights .now)) (c .before .before .before .before .before .before .before .before .before .before .before .before .before .before .before .loop .i) (H .place) (c .before .before .before .before .before .before .before .before .before .before .entry-at .ensures) (c .before .before .before .before .before .before .before .before .before .split-count .ensures) (H .placeIs) (c .before .before .before .before .before .before .before .before .place-after .ensures) in
-    let E = (c .before .before .before .before .before .put-rect-slice .ensures) (gridWith (a .column-widths .now) (a .row-heights .now)) (H .at .precedingHeightMinus1) (record { columnsAre = refl; rowsAre = refl; heightsAre = refl }) in
-    slices-made _ _ _ _ _ _ _ (c .before .before .before .before .before .before .before .before .before .before .before .before .before .before .before .before .before .before .before .within-limits .ensures) (c .before .before .before .before .before .before .before .before .before .before .before .before .before .before .before .before .before .before .demand .ensures _) (held-stops H (c .before .before .before .before .before .before .before .before .before .before .before .before .if2 .taken) (c .before .before .before .before .before .before .before .before .before .before .before .if3 .left) (entry-tabled row E) (c .if4 .taken))
-
-add-i : tie.Need-add-i Inv-loop μ-loop
-add-i c = omega (arith, held-small (c .before .before .before .before .before .before .before .before .before .before .before .before .before .before .before .before .before .loop .inv .1) (c .before .before .before .before .before .before .before .before .before .before .before .before .before .before .if2 .taken))
-
-loop-less : tie.Need-loop-less Inv-loop μ-loop
-loop-less c = omega (arith, held-small (c .before .before .before .before .before .before .before .before .before .before .before .before .before .before .before .before .before .loop .inv .1) (c .before .before .before .before .before .before .before .before .before .before .before .before .before .before .if2 .taken))
-
-loop-again : tie.Need-loop-again Inv-loop μ-loop
-loop-again c =
-    let a = (c .before .before .before .before .before .before .before .before .before .before .before .before .before .before .before .before .before .before .before .before .before .before .before .before .before .before .args) in
-    let H = (c .before .before .before .before .before .before .before .before .before .before .before .before .before .before .before .before .before .loop .inv .1) in
-    let row = slice-at (sliceTables (a .entries .now) (a .split-heights .now)) (c .before .before .before .before .before .before .before .before .before .before .before .before .before .before .before .before .before .loop .i) (H .place) (c .before .before .before .before .before .before .before .before .before .before .before .before .entry-at .ensures) (c .before .before .before .before .before .before .before .before .before .before .before .split-count .ensures) (H .placeIs) (c .before .before .before .before .before .before .before .before .before .before .place-after .ensures) in
-    let E = (c .before .before .before .before .before .before .before .put-rect-slice .ensures) (gridWith (a .column-widths .now) (a .row-heights .now)) (H .at .precedingHeightMinus1) (record { columnsAre = refl; rowsAre = refl; heightsAre = refl }) in
-    ((c .before .before .before .before .before .before .before .put-rect-slice .kept .1 .0) ∙ (c .before .before .before .before .before .before .before .before .before .before .before .before .before .before .before .before .before .loop .inv .0), held-more H (c .before .before .before .before .before .before .before .before .before .before .before .before .before .before .if2 .taken) (c .before .before .before .before .before .before .before .before .before .before .before .before .before .if3 .left) (entry-tabled row E) (c .before .before .if4 .left) (c .before .before .before .before .before .before .before .before .before .before .before .split-count .ensures) (c .before .before .before .before .before .before .before .before .before .before .place-after .ensures))
-
-same-length-3 : tie.Need-same-length-3 Inv-loop μ-loop
-same-length-3 c = (c .before .before .before .before .loop .inv .0)
-
-returns-4 : tie.Need-returns-4 Inv-loop μ-loop
-returns-4 c = slices-made _ _ _ _ _ _ _ (c .before .before .before .before .before .before .before .before .within-limits .ensures) (c .before .before .before .before .before .before .before .demand .ensures _) (held-ends (c .before .before .before .before .loop .inv .1) (c .before .if2 .left) (c .demand3 .ensures _))
+returns : tie.Need-returns
+returns c =
+    let a = (c .before .before .before .before .before .before .before .before .before .before .before .before .args) in
+    let k = (c .before .before .before .before .before .before .before .before .before .before .before .before .good .1 .1 .0) in
+    let u = in-use (a .sizes) _ _ (search needs) (search needs) (c .before .before .before .before .before .before .before .before .before .at-most .ensures) (c .before .before .before .before .before .before .before .before .at-most2 .ensures) in
+    in-grid _ _ (sliceTables (a .entries .now) (a .split-heights .now)) _ _ (u .grid) (c .before .before .put-entries .ensures)
 
 pub put-rect-slices-spec : {M : Type 1} → statement M
 put-rect-slices-spec =
     tie.close
     (tie.spec
-    Inv-loop
-    μ-loop
-    (λ _ _. tt)
-    (λ _ _. tt)
-    returns
-    cast-t25
-    cast-t26
-    loop-holds
-    (λ _ _. tt)
-    same-length
-    returns-2
-    (λ _ _. tt)
-    (λ _ _. tt)
-    (λ _ _. tt)
-    mul-put-rect-slice
-    sub-put-rect-slice
-    sub-put-rect-slice
-    part-put-rect-slice-end
-    put-rect-slice-requires
-    same-length-2
-    returns-3
-    add-i
-    loop-less
-    loop-again
-    (λ _ _. tt)
-    same-length-3
-    returns-4)
+    (λ c. search needs)
+    (λ c κs. search needs)
+    (λ c. search needs)
+    (λ c κs. search needs)
+    array-share-prefix-column-widths
+    slice-aggregate-put-entries
+    array-share-prefix-row-heights
+    slice-aggregate-put-entries-2
+    put-entries-requires
+    (λ c. search needs)
+    returns)

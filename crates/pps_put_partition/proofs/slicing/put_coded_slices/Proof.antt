@@ -4,10 +4,10 @@ use Rattle.pps_put_partition.proofs.slicing.put_coded_slices.Statement.
 use Rattle.pps_put_partition.proofs.slicing.put_coded_slices.Tie as tie
 
 returns : tie.Need-returns
-returns c = slices-coded _ _ _ _ _ _ _ (c .before .before .before .before .before .before .before .before .before .pre) (c .before .before .before .before .if1 .taken) (c .before .before .put-rect-slices .ensures)
+returns c = slices-coded _ _ _ _ _ _ (c .before .before .before .before .if1 .taken) (c .before .before .put-rect-slices .ensures)
 
 returns-2 : tie.Need-returns-2
-returns-2 c = slices-absent _ _ _ _ _ (c .before .before .before .before .before .before .args .count) _ (c .before .if1 .left) (c .demand .ensures _)
+returns-2 c = slices-absent _ _ _ _ _ (c .before .before .before .before .args .count) _ (c .before .if1 .left) (c .demand .ensures _)
 
 pub put-coded-slices-spec : {M : Type 1} → statement M
 put-coded-slices-spec =

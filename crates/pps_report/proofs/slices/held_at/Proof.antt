@@ -1,3 +1,4 @@
+use Rattle.partition.specs.Grid.{maxSlices}
 use Prim.Native.Nat.{_-_}
 use native.Mathlib.Omega.{arith}
 use Rattle.pps_report.proofs.slices.held_at.Statement.{statement}
@@ -7,7 +8,7 @@ abbrev Inv-loop : tie.InvT-loop
 Inv-loop x y count left top width height held₀ i₀ held i = Unit {0}
 
 abbrev μ-loop : tie.MeasureT-loop
-μ-loop x y count left top width height held₀ i₀ held i = 1000 - i
+μ-loop x y count left top width height held₀ i₀ held i = maxSlices - i
 
 loop-holds : tie.Need-loop-holds Inv-loop μ-loop
 loop-holds c = tt

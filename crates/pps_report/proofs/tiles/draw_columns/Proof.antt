@@ -1,3 +1,4 @@
+use Rattle.partition.specs.Grid.{maxTileColumns}
 use Prim.Native.Nat.{_-_}
 use native.Mathlib.Omega.{arith}
 use Rattle.pps_report.proofs.tiles.draw_columns.Statement.{statement}
@@ -7,7 +8,7 @@ abbrev Inv-loop : tie.InvT-loop
 Inv-loop first y row-height columns column-widths count left top width height frame x₀ i₀ x i = Unit {0}
 
 abbrev μ-loop : tie.MeasureT-loop
-μ-loop first y row-height columns column-widths count left top width height frame x₀ i₀ x i = 30 - i
+μ-loop first y row-height columns column-widths count left top width height frame x₀ i₀ x i = maxTileColumns - i
 
 loop-holds : tie.Need-loop-holds Inv-loop μ-loop
 loop-holds c = tt

@@ -1,3 +1,4 @@
+use Rattle.partition.specs.Grid.{maxTiles}
 use Prim.Native.Nat.{_-_}
 use native.Mathlib.Omega.{arith}
 use Rattle.pps_report.proofs.tiles.draw_tiles.Statement.{statement}
@@ -7,7 +8,7 @@ abbrev Inv-loop : tie.InvT-loop
 Inv-loop rows row-heights columns column-widths count left top width height frame y₀ i₀ y i = Unit {0}
 
 abbrev μ-loop : tie.MeasureT-loop
-μ-loop rows row-heights columns column-widths count left top width height frame y₀ i₀ y i = 990 - i
+μ-loop rows row-heights columns column-widths count left top width height frame y₀ i₀ y i = maxTiles - i
 
 loop-holds : tie.Need-loop-holds Inv-loop μ-loop
 loop-holds c = tt

@@ -5,7 +5,7 @@ use mathlib.Core.Path.{_≡_, sym, _∙_}
 use Rattle.grid_sizes.specs.Fronts.{gridIn}
 use Rattle.partition.specs.Grid.{maxTileColumns, maxTiles}
 use Rattle.pps_syntax.specs.SliceTables.{sliceTables}
-use Rattle.question_tests.specs.InUse.{in-use, tiles-few}
+use Rattle.grid_sizes.specs.Fronts.{in-use, tiles-few}
 use Rattle.question_tests.proofs.SlicingLaws.{stopped-before, uncoded, walks, before-passes, few-slices}
 use Rattle.question_tests.proofs.slicing.slicing_refusal.Statement.{statement}
 use Rattle.question_tests.proofs.slicing.slicing_refusal.Tie as tie

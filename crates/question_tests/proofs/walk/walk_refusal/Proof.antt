@@ -4,7 +4,7 @@ use mathlib.Core.Path.{refl}
 use native.Mathlib.Omega.{arith}
 use Rattle.partition.specs.Grid.{gridWith}
 use Rattle.question_tests.specs.Refusing.{Refusing, refusing-begins, refusing-late, refusing-stops, refusing-goes-on, refusing-early, refusing-ends, from-within, part-starts, part-ends}
-use Rattle.question_tests.specs.InUse.{tiles-few}
+use Rattle.grid_sizes.specs.Fronts.{tiles-few}
 use Rattle.pps_syntax.specs.SliceTables.{sliceTables}
 use Rattle.question_tests.proofs.walk.walk_refusal.Statement.{statement}
 use Rattle.question_tests.proofs.walk.walk_refusal.Tie as tie

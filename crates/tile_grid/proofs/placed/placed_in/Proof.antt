@@ -6,7 +6,7 @@ use mathlib.Core.Path.{_≡_, sym, _∙_}
 use Rattle.grid_sizes.specs.Fronts.{gridIn}
 use Rattle.partition.specs.Grid.{maxTileColumns, maxTiles}
 use Rattle.pps_syntax.specs.SliceTables.{sliceTables}
-use Rattle.question_tests.specs.InUse.{in-use}
+use Rattle.grid_sizes.specs.Fronts.{in-use}
 use Rattle.tile_grid.specs.PlanLaws.{placed-refused, placed-none, placed-walks, placed-starts, placed-made}
 use Rattle.tile_grid.proofs.placed.placed_in.Statement.{statement}
 use Rattle.tile_grid.proofs.placed.placed_in.Tie as tie
