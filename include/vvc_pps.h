@@ -42,8 +42,9 @@ enum {
     VVC_NOT_A_PPS = 2, /* nal_unit_type not 16 */
     VVC_TOO_MANY_BYTES = 3, /* NAL unit to be read, or bytes given to escaping or unescaping alone, over 65,535 bytes */
     VVC_WORK_BUFFER_TOO_SHORT = 4, /* work buffer shorter than the unit's length - 2; in unescaping, than the input */
-    /* a lent table below its length; in writing and the questions also a count above that length; in writing also
-     * extension bits outside the lent bytes */
+    /* a lent table below its length; in writing and the questions also a count above that length, or split counts of
+     * the entries in use that sum past it, however much is lent; in writing also extension bits outside the lent
+     * bytes */
     VVC_TABLE_TOO_SHORT = 5,
     VVC_UE_TOO_LONG = 6, /* ue(v) with 32 leading zeros */
     VVC_PICTURE_SIZE_ZERO = 7, /* width or height 0 */
@@ -371,12 +372,13 @@ VvcPpsRead vvc_parse_pps(const uint8_t *nal, size_t nal_len, uint8_t *work, size
  * order in which the fields are written, then 29 where `out` is shorter than the bytes.
  *
  * The tables are those that reading fills, of the same lengths at least (else 5, as for a count in the record over
- * those lengths). The extension bits are taken out of `extension`, from the bit that the record names on: after
- * reading, the work buffer. Without any, `extension` may be empty; without their flag they are 26. Flags over 1 are
- * written as 1, but pps_rect_slice_flag in one tile has to be 1 (26). An uncoded width or height is held to the grid
- * alone (15), not to what reading infers, and pps_tile_idx_delta_present_flag is followed even where it is not coded.
- * Other fields that are not written, and those of absent blocks, are not looked at, but for pps_num_subpics_minus1 of a
- * mapping in an unpartitioned picture, which has to be 0 (26).
+ * those lengths, and for split counts of the entries in use that sum past 1,000). The extension bits are taken out of
+ * `extension` (5 where they lie outside it), from the bit that the record names on: after reading, the work buffer.
+ * Without any, `extension` may be empty; without their flag they are 26. Flags over 1 are written as 1, but
+ * pps_rect_slice_flag in one tile has to be 1 (26). An uncoded width or height is held to the grid alone (15), not to
+ * what reading infers, and pps_tile_idx_delta_present_flag is followed even where it is not coded. Other fields that
+ * are not written, and those of absent blocks, are not looked at, but for pps_num_subpics_minus1 of a mapping in an
+ * unpartitioned picture, which has to be 0 (26).
  *
  * A refusal changes nothing, an acceptance only the bytes reported. */
 VvcByteCount vvc_write_pps(VvcPps pps, VvcQpOffsetList triples,
@@ -518,14 +520,14 @@ static inline VvcPpsRead vvc_pps_read(const uint8_t *nal, size_t nal_len, uint8_
     return read;
 }
 
-/* Writes the NAL unit: vvc_write_pps_nal. */
+/* Writes the NAL unit: vvc_write_pps_nal, with the triples of the tables. */
 static inline VvcByteCount vvc_pps_write(const VvcPps *pps, const VvcPpsTables *tables,
     const uint8_t *extension, size_t extension_len, uint8_t *out, size_t out_len) {
     return vvc_write_pps_nal(*pps, vvc_pps_triples_(tables), VVC_PPS_TABLES_(tables), extension, extension_len, out,
         out_len);
 }
 
-/* Writes the RBSP: vvc_write_pps. */
+/* Writes the RBSP: vvc_write_pps, with the triples of the tables. */
 static inline VvcByteCount vvc_pps_write_rbsp(const VvcPps *pps, const VvcPpsTables *tables,
     const uint8_t *extension, size_t extension_len, uint8_t *out, size_t out_len) {
     return vvc_write_pps(*pps, vvc_pps_triples_(tables), VVC_PPS_TABLES_(tables), extension, extension_len, out,
@@ -554,7 +556,7 @@ static inline const char *vvc_strerror(int number) {
         "NAL unit of another type",
         "over 65,535 bytes",
         "work buffer too short",
-        "table too short, or a count or extension bits past what is lent",
+        "table too short, count too large, or extension bits outside the lent bytes",
         "ue(v) code with 32 leading zeros",
         "picture width or height 0",
         "subpicture count or id length out of range",
@@ -684,6 +686,7 @@ VVC_PPS_AT_(VvcPlanAnswer, left, 8); VVC_PPS_AT_(VvcPlanAnswer, top, 4008); VVC_
 VVC_PPS_AT_(VvcPlanAnswer, height, 12008);
 VVC_PPS_SIZE_(VvcCoverAnswer, 8); VVC_PPS_AT_(VvcCoverAnswer, kind, 0); VVC_PPS_AT_(VvcCoverAnswer, refused, 1);
 VVC_PPS_AT_(VvcCoverAnswer, tile, 4);
+VVC_PPS_SIZE_(VvcPpsTables, 36128);
 
 #undef VVC_PPS_AT_
 #undef VVC_PPS_SIZE_

@@ -1,8 +1,10 @@
 #!/usr/bin/env python3
 """structs.py [ROOT]: holds the C interface to itself, field by field in order with types: the structs of the sources
-that cross (#[repr(C)] in crates), those of include/vvc_pps.h and those of tools/compare; with them the functions, the
-constants, the version, and the header's own assertions of the layout. Prints each difference; the last line is
-`N held, M different`, and the exit status is 1 where M is not 0."""
+that cross (#[repr(C)] in crates), those of include/vvc_pps.h and those of tools/compare; with them the functions, each
+with its result and the names and types of its parameters in order, the constants, the version, and the header's own
+assertions of the layout; and that the programs of src leave out no field and no function. What is missing on every side
+is different too. Prints each difference; the last line is `N held, M different`, and the exit status is 1 where M is
+not 0."""
 
 import pathlib
 import re
@@ -14,6 +16,8 @@ MIRROR = "tools/compare/src/ours"
 
 # Names that C has otherwise, since it has no modules.
 C_NAMES = {"Cursor": "VvcCursor", "BitsRead": "VvcBitsRead", "SignedRead": "VvcSignedRead", "Sink": "VvcSink"}
+# What the header puts before the names of the mirror.
+MIRROR_NAMES = ("Vvc", "VvcPps")
 # The places of a row of the slice entries, and the fields that C gives them.
 ROW = {
     "WIDTH": "pps_slice_width_in_tiles_minus1",
@@ -49,10 +53,10 @@ held = different = 0
 
 
 def hold(what, *sides):
-    """Each side is where it stands and what is there."""
+    """Each side is where it stands and what is there, None for what is missing."""
     global held, different
     held += 1
-    if any(value != sides[0][1] for _, value in sides):
+    if any(value is None or value != sides[0][1] for _, value in sides):
         different += 1
         print(f"different: {what}")
         for where, value in sides:
@@ -61,6 +65,11 @@ def hold(what, *sides):
 
 def text(path):
     return (ROOT / path).read_text(encoding="utf-8")
+
+
+def program(name):
+    """A program of src, without comments and strings."""
+    return re.sub(r'/\*.*?\*/|"[^"\n]*"', "", text(f"tools/header-check/src/{name}"), flags=re.S)
 
 
 def rust_text(paths):
@@ -144,7 +153,7 @@ c_structs = {}
 for name, body in re.findall(r"typedef struct (\w+) \{(.*?)\n\} \1;", header, re.S):
     c_structs[name] = c_fields(body, c_numbers)
 code_structs = rust_structs(code, code_numbers)
-mirror_structs = rust_structs(mirror, {}, ("Vvc", "VvcPps"))
+mirror_structs = rust_structs(mirror, {}, MIRROR_NAMES)
 
 # ---- functions: a slice is a pointer and a length
 def c_parameters(parameters):
@@ -158,16 +167,34 @@ def c_parameters(parameters):
             yield f"{rust_type(kind.strip(), code_numbers)[0]} {name}"
 
 
-code_functions, c_functions = {}, {}
+def mirror_parameters(parameters):
+    """Those of a function in over_tables! stand around a semicolon, and the macro puts the tables there."""
+    if ";" in parameters:
+        beside, more = parameters.split(";")
+        parameters = over_tables.replace("$($beside: $beside_type,)*", f"{beside},")
+        parameters = parameters.replace("$($more: $type),*", more)
+    for name, kind in re.findall(r"(\w+): ([^,]+)", parameters):
+        _, pointer, inner = re.fullmatch(r"(\*(const|mut) )?(.*)", kind.strip()).groups()
+        inner = rust_type(inner, {}, MIRROR_NAMES)[0]
+        yield f"{'const ' if pointer == 'const' else ''}{inner} {'*' if pointer else ''}{name}"
+
+
+code_functions, c_functions, mirror_functions = {}, {}, {}
 for name, parameters, answer in re.findall(r'#\[no_mangle\]\s+pub extern "C" fn (\w+)\((.*?)\) -> (\w+)', code, re.S):
     code_functions[name] = (rust_type(answer, code_numbers)[0], *(list(c_parameters(parameters)) or ["void"]))
 for answer, name, parameters in re.findall(r"^(\w+) (vvc_\w+)\(([^)]*)\);", header, re.M):
     c_functions[name] = (answer, *(p.strip() for p in re.sub(r"\s+", " ", parameters).split(",")))
+over_tables = "".join(re.findall(r"\$\(fn \$name\((.*?)\) -> \$answer;\)\*", mirror, re.S))
+for name, parameters, answer in re.findall(r"fn (vvc_\w+)\(([^)]*)\) -> (\w+);", mirror):
+    mirror_functions[name] = (rust_type(answer, {}, MIRROR_NAMES)[0], *mirror_parameters(parameters))
 mirrored = re.findall(r"fn (vvc_\w+)\(", mirror)
 hold("the functions", ("crates", sorted(code_functions)), (HEADER, sorted(c_functions)),
      (MIRROR, sorted([*mirrored, "vvc_version"])))
 for name in sorted(code_functions.keys() & c_functions.keys()):
-    hold(f"the signature of {name}", ("crates", code_functions[name]), (HEADER, c_functions[name]))
+    sides = [("crates", code_functions[name]), (HEADER, c_functions[name])]
+    if name != "vvc_version":
+        sides.append((MIRROR, mirror_functions.get(name)))
+    hold(f"the signature of {name}", *sides)
 
 # ---- structs: those that functions take and give, and those inside them
 row = sorted((code_numbers[place], field) for place, field in ROW.items())
@@ -205,22 +232,44 @@ version = tuple(c_numbers[f"VVC_PPS_VERSION_{part}"] for part in ("MAJOR", "MINO
 stated = re.search(r"versionOf (\d+) (\d+) (\d+)", code)
 hold("the version", (HEADER, version), ("its contract", stated and tuple(map(int, stated.groups()))))
 newest = re.search(r"^## [^\d\n]*(\d+)\.(\d+)\.(\d+)", text("CHANGELOG.md"), re.M)
-if newest:
-    hold("the version", (HEADER, version), ("CHANGELOG.md", tuple(map(int, newest.groups()))))
+hold("the version", (HEADER, version), ("CHANGELOG.md", newest and tuple(map(int, newest.groups()))))
 
 # ---- the header's assertions, each struct and each field
 sizes = dict(re.findall(r"VVC_PPS_SIZE_\((\w+), (\d+)\);", header))
 places = {(name, field): int(at) for name, field, at in re.findall(r"VVC_PPS_AT_\((\w+), (\w+), (\d+)\);", header)}
 wanted = {(name, field): at for name in crossing for field, at in layout(name)[2].items()}
 hold("the sizes asserted", (HEADER, {name: int(size) for name, size in sizes.items()}),
-     ("by C's rule", {name: layout(name)[0] for name in crossing}))
+     ("by C's rule", {name: layout(name)[0] for name in c_structs}))
 hold("the places asserted", (HEADER, places), ("by C's rule", wanted))
 
-# ---- the program that reads every field names each of them
-fields_c = text("tools/header-check/src/fields.c")
-unread = [f"{name}.{field}" for name in crossing for field, _, _ in c_structs[name]
-          if not re.search(rf"\b{field}\b", fields_c)]
+# ---- the programs of src: every field of every struct, as a variable or a field of that type has it
+fields_c, stack_c, nulls_c = program("fields.c"), program("stack.c"), program("nulls.c")
+
+
+def leaves(name):
+    """The fields of a record, those of its blocks behind a point."""
+    for field, kind, _ in c_structs[name]:
+        yield from (f"{field}.{inner}" for inner in leaves(kind)) if kind in c_structs else [field]
+
+
+unread = []
+for name in crossing:
+    owners = re.findall(rf"\b{name} \*?(\w+)", fields_c)
+    owners += [field for fields in c_structs.values() for field, kind, _ in fields if kind == name]
+    owner = rf"\b(?:{'|'.join(owners)})(?:\[\w+\])?" if owners else "(?!)"
+    unread += [f"{name}.{field}" for field, _, _ in c_structs[name]
+               if not re.search(rf"{owner}(?:\.|->){field}\b", fields_c)]
 hold("fields that src/fields.c does not name", ("there", unread), ("wanted", []))
+hold("the fields of a record", (HEADER, list(leaves("VvcPps"))),
+     ("src/fields.c", re.findall(r"^    IS\(([\w.]+)\)", fields_c, re.M)))
+
+# ---- and every function: all with their stack, those over the tables too, and all that take a pointer with nulls
+over_struct = re.findall(r"^static inline \w+ (vvc_pps_\w*[a-z])\(", header, re.M)
+hold("functions that src/stack.c measures", (HEADER, sorted([*c_functions, *over_struct])),
+     ("there", sorted(re.findall(r"CALL\((vvc_\w+),", stack_c))))
+with_pointer = [name for name, words in c_functions.items() if "*" in "".join(words)]
+hold("functions with a pointer that src/nulls.c does not call",
+     ("there", [name for name in with_pointer if not re.search(rf"\b{name}\(", nulls_c)]), ("wanted", []))
 
 print(f"{held} held, {different} different")
 sys.exit(different != 0)

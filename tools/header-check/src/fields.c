@@ -379,8 +379,10 @@ static void hold_written(const VvcPps *record, const VvcPpsTables *with, const c
 
 static void hold_read(void) {
     VvcPpsRead read;
+    VvcQpOffsetList list;
     memset(&lent, 0x5A, sizeof lent);
     read = vvc_pps_read(nal, nal_len, work, sizeof work, &lent);
+    list = vvc_pps_triples_(&lent);
     hold("refused", read.refused, VVC_ACCEPTED);
     hold("bytes_taken", (long long)read.bytes_taken, (long long)(bit + 7) / 8);
     same("the work buffer", work, rbsp, (bit + 7) / 8);
@@ -394,6 +396,7 @@ static void hold_read(void) {
     same("split_heights", lent.split_heights, tables.split_heights, sizeof tables.split_heights);
     same("triples", lent.triples, tables.triples, sizeof tables.triples);
     same("triples of the answer", read.triples, tables.triples, sizeof tables.triples);
+    same("triples by value", list.triples, tables.triples, sizeof tables.triples);
     hold_written(&pps, &tables, "written");
     hold_written(&read.pps, &lent, "read and written");
 }
@@ -530,6 +533,7 @@ static void hold_bits(void) {
     const VvcBitsRead u = vvc_read_u(bytes, 3, start, 9), code = vvc_read_ue(bytes, 3, u.next);
     const VvcSignedRead s = vvc_read_se(bytes, 3, code.next);
     const VvcCursor end = vvc_read_rbsp_trailing_bits(bytes, 3, s.next);
+    const VvcUeSize size = vvc_ue_size(1000);
     VvcSink sink = vvc_sink(true);
     hold("header.refused", h.refused, VVC_ACCEPTED);
     hold("header.forbidden_zero_bit", h.header.forbidden_zero_bit, 1);
@@ -538,8 +542,8 @@ static void hold_bits(void) {
     hold("header.nal_unit_type", h.header.nal_unit_type, 17);
     hold("header.nuh_temporal_id_plus1", h.header.nuh_temporal_id_plus1, 6);
     hold("header.refused", vvc_parse_nal_header(header, 1).refused, VVC_NAL_TOO_SHORT);
-    hold("size.bits", vvc_ue_size(1000).bits, 19);
-    hold("size.refused", vvc_ue_size(1000).refused, VVC_ACCEPTED);
+    hold("size.bits", size.bits, 19);
+    hold("size.refused", size.refused, VVC_ACCEPTED);
     hold("size.refused", vvc_ue_size(4294967295u).refused, VVC_NO_CODE);
     /* 10100101 0 | 010 1 ... */
     hold("u(9)", u.value, 0x14A);

@@ -46,7 +46,7 @@ static unsigned calls, wrong;
 #define HEIGHTS split_heights, VVC_SPLIT_HEIGHTS
 #define NONE NULL, 0
 #define ALL IDS, COLUMNS, ROWS, ENTRIES, HEIGHTS
-#define FIVE_TIMES(WITH) \
+#define SIX_TIMES(WITH) \
     WITH(NONE, NONE, NONE, NONE, NONE) \
     WITH(NONE, COLUMNS, ROWS, ENTRIES, HEIGHTS) \
     WITH(IDS, NONE, ROWS, ENTRIES, HEIGHTS) \
@@ -71,7 +71,7 @@ static void reading(void) {
     CALL(VvcPpsRead, vvc_parse_pps(nal, 2, NONE, ALL), a.refused == VVC_PICTURE_SIZE_ZERO);
     CALL(VvcPpsRead, vvc_parse_pps(nal, 7, work, 64, ALL), a.refused == 0 && a.bytes_taken == 5);
 #define READ(...) CALL(VvcPpsRead, vvc_parse_pps(nal, 7, work, 64, __VA_ARGS__), a.refused == VVC_TABLE_TOO_SHORT);
-    FIVE_TIMES(READ)
+    SIX_TIMES(READ)
 }
 
 static void writing(void) {
@@ -84,7 +84,7 @@ static void writing(void) {
 #define WRITE(...) \
     CALL(VvcByteCount, vvc_write_pps(pps, triples, __VA_ARGS__, NONE, out, 64), a.refused == VVC_TABLE_TOO_SHORT); \
     CALL(VvcByteCount, vvc_write_pps_nal(pps, triples, __VA_ARGS__, NONE, out, 64), a.refused == VVC_TABLE_TOO_SHORT);
-    FIVE_TIMES(WRITE)
+    SIX_TIMES(WRITE)
 }
 
 static void questions(void) {
@@ -93,7 +93,7 @@ static void questions(void) {
     CALL(VvcGridAnswer, vvc_tile_grid(pps, __VA_ARGS__), a.refused == VVC_TABLE_TOO_SHORT); \
     CALL(VvcPlanAnswer, vvc_slice_plan(pps, __VA_ARGS__), a.refused == VVC_TABLE_TOO_SHORT); \
     CALL(VvcCoverAnswer, vvc_cover(pps, __VA_ARGS__), a.kind == VVC_COVER_REFUSED && a.refused == VVC_TABLE_TOO_SHORT);
-    FIVE_TIMES(ASK)
+    SIX_TIMES(ASK)
 }
 
 static void bit_readers(void) {

@@ -45,7 +45,14 @@ static VvcSink sink;
     CALL(vvc_put_se, VvcSink, sink, out, sizeof out, -1000000) \
     CALL(vvc_put_copy, VvcSink, sink, out, sizeof out, nal, nal_len, 3, nal_len) \
     CALL(vvc_close, VvcSink, sink, out, sizeof out) \
-    CALL(vvc_sink_answer, VvcByteCount, sink, sizeof out)
+    CALL(vvc_sink_answer, VvcByteCount, sink, sizeof out) \
+    CALL(vvc_version, uint32_t, ) \
+    CALL(vvc_pps_read, VvcPpsRead, nal, nal_len, work, sizeof work, &tables) \
+    CALL(vvc_pps_write, VvcByteCount, &pps, &tables, work, sizeof work, out, sizeof out) \
+    CALL(vvc_pps_write_rbsp, VvcByteCount, &pps, &tables, work, sizeof work, out, sizeof out) \
+    CALL(vvc_pps_grid, VvcGridAnswer, &pps, &tables) \
+    CALL(vvc_pps_plan, VvcPlanAnswer, &pps, &tables) \
+    CALL(vvc_pps_cover, VvcCoverAnswer, &pps, &tables)
 
 /* The answer stands in the frame of this function. */
 static volatile uint8_t seen;
