@@ -1,5 +1,7 @@
 // Reading bits (H.266 7.2, 9.2) over a byte slice and a cursor by value. A refusal sticks: once there is one, every
 // reader gives 0 and leaves the cursor as it is, so that code above is a straight line and the first refusal wins.
+#![tactic(auto)]
+
 ghost use Rattle.std.specs.Prelude.{◌≡◌, ◌+◌, ◌-◌, ◌*◌, ◌/◌, ◌^◌, ◌≤◌, ◌<◌, min};
 ghost use Rattle.codes.specs.Bytes.{bit_count, bit_at, bits_at};
 ghost use Rattle.codes.specs.ExpGolomb.{signed_of};

@@ -1,6 +1,8 @@
 // Writing bits (H.266 7.2, 9.2; the Rust's src/bit_writer.rs) into bytes that the caller lends. The sink goes in and
 // comes back by value. It stores only inside the output and counts always, so that a run over an empty output gives the
 // exact length and any refusal.
+#![tactic(auto)]
+
 ghost use Rattle.std.specs.Prelude.{◌≡◌, true, List, [], ◌∷◌, ℕ, ◌+◌, ◌%◌, ◌<◌, min};
 ghost use Rattle.std.proofs.lemmas.List.Edits.{sets};
 ghost use Rattle.codes.specs.Bits.{to_bits};

@@ -1,4 +1,6 @@
 // How many bits the ue(v) code of a value takes (H.266 9.2).
+#![tactic(auto)]
+
 ghost use Rattle.std.specs.Prelude.{◌≡◌, ◌<◌};
 ghost use Rattle.codes.specs.ExpGolomb.{ue_length};
 ghost use Rattle.code_length.specs.UeSize.{ue_size_of};

@@ -1,1 +1,3 @@
 // Bits and the codes of H.266 9.2.
+#![tactic(auto)]
+

@@ -1,4 +1,6 @@
 // The tile grid of a picture, from its explicit tile sizes.
+#![tactic(auto)]
+
 ghost use Rattle.std.specs.Prelude.{◌≡◌, take};
 ghost use Rattle.partition.specs.Grid.{max_tile_columns, max_tiles};
 ghost use Rattle.partition.specs.Sizes.{axis_sizes};

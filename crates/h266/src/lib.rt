@@ -1,4 +1,6 @@
 // The two-byte NAL unit header (H.266 7.3.1.2).
+#![tactic(auto)]
+
 ghost use Rattle.std.specs.Prelude.{◌≡◌};
 ghost use Rattle.h266.specs.Header.{header_of};
 

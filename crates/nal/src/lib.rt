@@ -1,5 +1,7 @@
 // Escaping and unescaping of a NAL unit's payload (H.266 7.3.1.1, 7.4.2.1; the Rust's src/nal.rs), between bytes that
 // the caller lends.
+#![tactic(auto)]
+
 ghost use Rattle.std.specs.Prelude.{◌≡◌, ◌≤◌, leb, length};
 ghost use Rattle.tables.specs.Tables.{over};
 ghost use Rattle.nal.specs.Escape.{zero_run, is_escape, needs_escape, escape};

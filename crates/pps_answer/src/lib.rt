@@ -1,4 +1,6 @@
 // What reading answers.
+#![tactic(auto)]
+
 ghost use Rattle.std.specs.Prelude.{◌≡◌};
 ghost use Rattle.pps_answer.specs.Answers.{refused_pps, is_accepted, first_bit, answer_from};
 

@@ -1,4 +1,6 @@
 // The readers of the blocks of a picture parameter set (the Rust's parse_pps) that stand around the partition block.
+#![tactic(auto)]
+
 ghost use Rattle.std.specs.Prelude.{cond, ◌≡◌, ◌+◌, ◌<◌};
 
 pub mod chroma;

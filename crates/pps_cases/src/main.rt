@@ -1,4 +1,6 @@
 // Tells of each file that it is named what pps_info tells of standard input, under the file's name.
+#![tactic(auto)]
+
 use libc::STDOUT_FILENO;
 
 fn tell(i: usize) {

@@ -1,5 +1,7 @@
 // The readers of the groups of fields of a picture parameter set (the Rust's parse_pps), each against its description
 // in H.266's order. A refusal sticks in the cursor, so a group is a straight line of calls.
+#![tactic(auto)]
+
 ghost use Rattle.std.specs.Prelude.{◌≡◌};
 ghost use Rattle.syntax.specs.Element.{parsed};
 ghost use Rattle.syntax.specs.Syntax.{parse};

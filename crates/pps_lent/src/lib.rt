@@ -1,5 +1,7 @@
 // What is lent beside a record to be written or asked about: tables at their stated lengths, and counts that they hold
 // (docs/BEHAVIOUR.md, 5).
+#![tactic(auto)]
+
 ghost use Rattle.std.specs.Prelude.{◌&&◌, ◌≡◌, leb, ◌+◌, min};
 ghost use Rattle.partition.specs.Grid.{max_slices};
 ghost use Rattle.pps_syntax.specs.FromRecord.{tables_long, counts_fit};

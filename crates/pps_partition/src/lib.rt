@@ -1,4 +1,6 @@
 // The tile and slice partition block of a picture parameter set (the Rust's parse_partition), read into lent tables.
+#![tactic(auto)]
+
 ghost use Rattle.std.specs.Prelude.{◌≡◌};
 ghost use Rattle.std.proofs.lemmas.List.Edits.{sets};
 ghost use Rattle.pps_syntax.specs.PartitionSyntax.{partition};

@@ -1,5 +1,7 @@
 // Writing the groups of fields of a picture parameter set (H.266 7.3.2.5; write_pps of the Rust's src/h266/pps.rs),
 // each as its description says.
+#![tactic(auto)]
+
 ghost use Rattle.std.specs.Prelude.{◌≡◌};
 ghost use Rattle.bit_writer.specs.Writing.{sink_over, play};
 ghost use Rattle.syntax.specs.Syntax.{symbols_for};

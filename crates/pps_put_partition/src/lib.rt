@@ -1,5 +1,7 @@
 // The tile and slice partition block of a picture parameter set, written from a record and its lent tables (the Rust's
 // write_partition).
+#![tactic(auto)]
+
 ghost use Rattle.std.specs.Prelude.{◌≡◌, List, [], ℕ, ◌≤◌, length};
 ghost use Rattle.codes.specs.Symbols.{first};
 ghost use Rattle.bit_writer.specs.Writing.{sink_over, with_refusal, play};

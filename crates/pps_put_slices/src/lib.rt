@@ -1,5 +1,7 @@
 // The rectangular slices of a picture parameter set, written from lent tables (the slice loop of the Rust's
 // write_partition).
+#![tactic(auto)]
+
 ghost use Rattle.std.specs.Prelude.{◌≡◌};
 ghost use Rattle.bit_writer.specs.Writing.{sink_over};
 ghost use Rattle.grid_sizes.specs.Fronts.{grid_in};

@@ -1,4 +1,6 @@
 // Reading a picture parameter set (the Rust's parse_pps).
+#![tactic(auto)]
+
 ghost use Rattle.std.specs.Prelude.{true, ◌≡◌, length};
 ghost use Rattle.pps_syntax.specs.FromRecord.{lengths_fit};
 ghost use Rattle.pps_syntax.specs.Rbsp.{read_rbsp};

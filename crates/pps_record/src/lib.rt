@@ -1,6 +1,8 @@
 // The picture parameter set as a record (the structs of the Rust's src/h266/pps.rs), for C and Rust to hold. An Option
 // is a block with a presence flag, a Vec a count beside a lent table. A flag is 0 or 1 where reading gives it; writing
 // takes all but 0 for 1.
+#![tactic(auto)]
+
 ghost use Rattle.std.specs.Prelude.{◌≡◌};
 ghost use Rattle.pps_record.specs.Absent.{no_partition};
 ghost use Rattle.pps_record.specs.Ctbs.{ctbs_of};

@@ -1,5 +1,7 @@
 // What the programs say of a NAL unit with a picture parameter set. Each function tells the number of the unit's
 // refusal, or 0; of what it prints no contract can speak.
+#![tactic(auto)]
+
 ghost use Rattle.std.specs.Prelude.{◌≡◌};
 ghost use Rattle.pps_report.specs.Told.{refusal_told};
 

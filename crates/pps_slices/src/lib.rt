@@ -1,5 +1,7 @@
 // The rectangular slices of a picture parameter set, read into lent tables: the slice loop of the Rust's
 // parse_partition.
+#![tactic(auto)]
+
 ghost use Rattle.std.specs.Prelude.{◌≡◌, ◌*◌, ◌≤◌, length, take};
 ghost use Rattle.partition.specs.Grid.{Grid, max_tiles};
 ghost use Rattle.pps_tables.specs.Parameters.{slices_before, slices_after};

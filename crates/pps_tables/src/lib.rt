@@ -1,4 +1,6 @@
 // The lent tables: their lengths, the rows of the slice entries, and a delta as its 32 bits.
+#![tactic(auto)]
+
 ghost use Rattle.std.specs.Prelude.{[], ◌≡◌, length, get_or, set};
 ghost use Rattle.tables.specs.Tables.{blank};
 ghost use Rattle.pps_syntax.specs.SliceTables.{bits_of_delta, delta_of_bits};

@@ -1,5 +1,7 @@
 // Writing a picture parameter set (the Rust's write_pps and write_pps_nal): a record, the triples beside it and its
 // lent tables, into bytes that the caller lends.
+#![tactic(auto)]
+
 ghost use Rattle.std.specs.Prelude.{◌≡◌, ◌+◌, ◌*◌, leb};
 ghost use Rattle.pps_syntax.specs.WriteAnswers.{wrote, write_set, write_pps, write_pps_nal};
 ghost use Rattle.pps_tables.specs.Parameters.{before};

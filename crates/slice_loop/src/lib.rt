@@ -1,5 +1,7 @@
 // The steps of the slice loop, and the types of its numbers (H.266 7.3.2.5, 7.4.3.5, 6.5.1): total, for tiles in and
 // out of the grid.
+#![tactic(auto)]
+
 ghost use Rattle.std.specs.Prelude.{◌≡◌, ◌+◌, ◌-◌, ◌*◌, ltb};
 ghost use Rattle.partition.specs.Entry.{tile_x, tile_y, in_last_row, width_coded, height_coded, inherited_height, split_coded, tile_row_height, default_advance, delta_uncodable};
 ghost use Rattle.slice_loop.specs.Answers.{tile_idx_of, next_by_delta};

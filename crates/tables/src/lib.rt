@@ -1,4 +1,6 @@
 // Tables that a caller lends, and how they are cleared.
+#![tactic(auto)]
+
 ghost use Rattle.std.specs.Prelude.{◌≡◌, length};
 ghost use Rattle.tables.specs.Tables.{blank};
 

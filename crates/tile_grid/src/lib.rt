@@ -1,5 +1,7 @@
 // The tile grid of a partitioned picture (H.266 6.5.1, 7.4.3.5), and the questions on grid, plan and cover over a
 // record (docs/BEHAVIOUR.md).
+#![tactic(auto)]
+
 ghost use Rattle.std.specs.Prelude.{◌≡◌};
 ghost use Rattle.partition.specs.Partition.{Layout};
 ghost use Rattle.pps_tables.specs.Parameters.{before};

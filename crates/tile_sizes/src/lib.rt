@@ -1,4 +1,6 @@
 // Sizes on an axis, counted without making them, and the next of them (H.266 6.5.1, equations 14, 15 and 21).
+#![tactic(auto)]
+
 ghost use Rattle.std.specs.Prelude.{◌≡◌, cond, ◌+◌, ◌/◌, ◌%◌, ◌≤◌, min, length, drop, leb};
 ghost use Rattle.partition.specs.Entry.{some_at_least};
 ghost use Rattle.partition.specs.Partition.{in_ctbs};

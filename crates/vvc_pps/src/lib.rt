@@ -1,5 +1,7 @@
 // The C interface, include/vvc_pps.h: each function is a call of one of the library's. A slice crosses as a pointer and
 // a length; an answer as a struct with the number of the refusal, 0 where there is none, beside the values.
+#![tactic(auto)]
+
 ghost use Rattle.std.specs.Prelude.{◌≡◌, min, [], ◌∷◌, ◌%◌};
 ghost use Rattle.nal.specs.Answers.{unescape_answer, unescape_out, escape_answer, escape_out};
 ghost use Rattle.h266.specs.Header.{header_of};

@@ -1,1 +1,3 @@
 // Worked examples of the public functions, computed: one table, one theorem.
+#![tactic(auto)]
+

@@ -1,0 +1,14 @@
+-- `seen` is the number of 1 bits from `p` on, at most one.
+use Prim.Native.Nat.{◌-◌, ◌≤◌, ◌<◌}
+use mathlib.Core.Path.{◌≡◌, sym}
+use native.Mathlib.Omega.{arith}
+use Rattle.codes.specs.Bytes.{bit_count, bit-lt}
+use Rattle.bit_reader.specs.Extension.{ones, ones_none, ones-back, extension-none, extension-ends}
+use borrow.Author.Rules.{rules}
+use Rattle.bit_reader.proofs.extension_bits.Given as goal
+
+abbrev pub invariant-loop-p : goal.invariant-loop-p
+invariant-loop-p l = (l.at ≤ l.p) × (l.p ≤ bit_count l.s) × (l.seen < 2) × (l.seen ≡ ones l.s l.p (bit_count l.s - l.p))
+
+abbrev pub decreases-loop-p : goal.decreases-loop-p
+decreases-loop-p l = l.p

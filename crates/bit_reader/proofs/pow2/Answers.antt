@@ -1,0 +1,6 @@
+use Rattle.bit_reader.proofs.Words.{shift_one}
+use borrow.Author.Rules.{rules}
+use Rattle.bit_reader.proofs.pow2.Goals as goal
+
+pub returns : goal.returns
+returns c = shift_one _ c.requires

@@ -1,0 +1,11 @@
+use Prim.Native.Nat.{min}
+use mathlib.Core.Path.{◌≡◌, ap, ◌∙◌}
+use native.Mathlib.Omega.{arith}
+use Rattle.bit_reader.specs.Reading.{u_read, byte_read}
+use Rattle.bit_reader.specs.Laws.{small-made}
+use borrow.Author.Rules.{rules}
+use Rattle.bit_reader.proofs.small_u.Goals as goal
+
+pub returns : goal.returns
+returns c = omega arith in
+    small-made _ _ c.at_most_8-m.result _ (omega arith) (c.u-b.ensures ∙ ap (u_read _ _) e) ∙ ap (byte_read _ _) c.at_most_8-m.ensures

@@ -1,0 +1,28 @@
+use Prim.Native.Nat.{◌+◌, ◌-◌, ◌≤◌}
+use mathlib.Core.Path.{◌≡◌, sym, ◌∙◌}
+use native.Mathlib.Nat.{zero-add, add-zero}
+use native.Mathlib.Omega.{arith}
+use Rattle.bit_reader.specs.Reading.{zeros_at}
+use Rattle.bit_reader.specs.Laws.{stops_past, stops-one, stops-not, zeros-none, zeros-out, zeros-count}
+use borrow.Author.Rules.{rules}
+use Rattle.bit_reader.proofs.zeros_from.Goals as goal
+
+pub loop-k-init : goal.loop-k-init
+loop-k-init c = (omega arith, rw (zero-add, add-zero))
+
+pub returns-then-p-end : goal.returns-then-p-end
+returns-then-p-end c = c.args.at + c.loop-k.k in
+    omega (arith, zeros-none c.args.s.now p (32 - c.loop-k.k) (stops_past c.args.s.now p (omega arith)))
+
+pub returns-then-bit_at-eq1 : goal.returns-then-bit_at-eq1
+returns-then-bit_at-eq1 c = c.args.at + c.loop-k.k in
+    omega (arith, zeros-none c.args.s.now p (32 - c.loop-k.k) (stops-one c.args.s.now p (sym c.bit_at.ensures ∙ c.if-bit_at-eq1.true)))
+
+pub loop-k-preserved : goal.loop-k-preserved
+loop-k-preserved c = c.args.s.now in
+    let at = c.args.at in
+    let k = c.loop-k.k in
+    omega (arith, zeros-count s at k 32 (stops-not s (at + k) (omega arith) (λ e. c.if-bit_at-eq1.false (c.bit_at.ensures ∙ e))) (omega arith))
+
+pub returns : goal.returns
+returns c = omega (arith, zeros-out c.args.s.now (c.args.at + c.loop-k.k) (32 - c.loop-k.k) (omega arith))
