@@ -14,28 +14,28 @@ pub mod guarded;
 // none). It is handed on field by field: a copy of the whole moves its padding too, and in a loop those moves wait for
 // each other.
 #[repr(C)]
-#[derive(Drop)]
+#[derive(Clone, Copy)]
 pub struct Cursor {
     pub at: usize,
     pub refused: u8,
 }
 
 #[repr(C)]
-#[derive(Drop)]
+#[derive(Clone, Copy)]
 pub struct BitsRead {
     pub value: u32,
     pub next: Cursor,
 }
 
 #[repr(C)]
-#[derive(Drop)]
+#[derive(Clone, Copy)]
 pub struct ByteRead {
     pub value: u8,
     pub next: Cursor,
 }
 
 #[repr(C)]
-#[derive(Drop)]
+#[derive(Clone, Copy)]
 pub struct SignedRead {
     pub value: i32,
     pub next: Cursor,

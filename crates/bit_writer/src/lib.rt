@@ -21,7 +21,7 @@ pub mod guarded;
 
 // Where writing stands; handed on field by field, as bit_reader's Cursor is.
 #[repr(C)]
-#[derive(Drop)]
+#[derive(Clone, Copy)]
 pub struct Sink {
     // Bytes are escaped as they are made.
     pub escape: bool,

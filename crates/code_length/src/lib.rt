@@ -10,7 +10,7 @@ mod table;
 use table::UE_LENGTHS;
 
 // The number of bits, or the number of a refusal.
-#[derive(Drop)]
+#[derive(Clone, Copy)]
 pub enum UeSize {
     Bits(u32),
     Refused(u8),

@@ -8,7 +8,7 @@ use slice_loop::CtbCount;
 use tile_sizes::{count_sizes, next_size, some_at_least};
 
 // A refusal (12, 13), or 0 and the count of sizes on an axis.
-#[derive(Drop)]
+#[derive(Clone, Copy)]
 pub struct AxisAnswer {
     pub refused: u8,
     pub count: u32,

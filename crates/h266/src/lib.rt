@@ -5,7 +5,7 @@ ghost use Rattle.std.specs.Prelude.{◌≡◌};
 ghost use Rattle.h266.specs.Header.{header_of};
 
 #[repr(C)]
-#[derive(Drop)]
+#[derive(Clone, Copy)]
 pub struct VvcNalHeader {
     pub forbidden_zero_bit: u8,
     pub nuh_reserved_zero_bit: u8,
@@ -15,7 +15,7 @@ pub struct VvcNalHeader {
 }
 
 // The header, or the number of a refusal.
-#[derive(Drop)]
+#[derive(Clone, Copy)]
 pub enum NalHeader {
     Header(VvcNalHeader),
     Refused(u8),

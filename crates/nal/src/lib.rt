@@ -8,7 +8,7 @@ ghost use Rattle.nal.specs.Escape.{zero_run, is_escape, needs_escape, escape};
 ghost use Rattle.nal.specs.Answers.{unescape_answer, unescape_out, escape_answer, escape_out};
 
 // How many bytes were put at the front of the output, or the number of a refusal as docs/BEHAVIOUR.md lists it.
-#[derive(Drop)]
+#[derive(Clone, Copy)]
 pub enum ByteCount {
     Bytes(usize),
     Refused(u8),

@@ -12,13 +12,13 @@ pub mod before;
 pub mod clear;
 
 // The record, and how many bytes of the RBSP the set took.
-#[derive(Drop)]
+#[derive(Clone, Copy)]
 pub struct AcceptedPps {
     pub pps: VvcPps,
     pub bytes_taken: usize,
 }
 
-#[derive(Drop)]
+#[derive(Clone, Copy)]
 pub enum PpsAnswer {
     Accepted(AcceptedPps),
     Refused(u8),
@@ -26,7 +26,7 @@ pub enum PpsAnswer {
 
 // The triples of the chroma list stand beside the answer, since an enum can't hold an array: those in use, then zeros.
 // All are zeros after a refusal.
-#[derive(Drop)]
+#[derive(Clone, Copy)]
 pub struct PpsRead {
     pub answer: PpsAnswer,
     pub triples: [VvcQpOffsets; 6],

@@ -13,7 +13,7 @@ use bit_reader::{Cursor, flag};
 use pps_fields::fields::{offset_or, ue_at_most};
 use pps_record::{VvcPpsChromaToolOffsets, VvcQpOffsets};
 
-#[derive(Drop)]
+#[derive(Clone, Copy)]
 pub struct TripleRead {
     pub cb: i32,
     pub cr: i32,
@@ -51,7 +51,7 @@ fn stored(triples: [VvcQpOffsets; 6], i: u32, t: TripleRead) -> [VvcQpOffsets; 6
     more
 }
 
-#[derive(Drop)]
+#[derive(Clone, Copy)]
 pub struct TriplesRead {
     pub triples: [VvcQpOffsets; 6],
     pub count: u32,
@@ -88,7 +88,7 @@ fn read_triples(s: &[u8], count: u32, with_joint: bool, c: Cursor) -> TriplesRea
     }
 }
 
-#[derive(Drop)]
+#[derive(Clone, Copy)]
 pub struct ChromaRead {
     pub value: VvcPpsChromaToolOffsets,
     pub triples: [VvcQpOffsets; 6],

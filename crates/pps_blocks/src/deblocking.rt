@@ -9,7 +9,7 @@ use bit_reader::{Cursor, flag};
 use pps_fields::fields::offset_or;
 use pps_record::VvcPpsDeblocking;
 
-#[derive(Drop)]
+#[derive(Clone, Copy)]
 pub struct DeblockingRead {
     pub value: VvcPpsDeblocking,
     pub next: Cursor,

@@ -12,7 +12,7 @@ use pps_fields::lists::read_ids;
 use pps_record::VvcPpsSubpicIdMapping;
 use pps_record::lengths::MAX_NUM_SUBPICS_MINUS1;
 
-#[derive(Drop)]
+#[derive(Clone, Copy)]
 pub struct SubpicIdsRead {
     pub value: VvcPpsSubpicIdMapping,
     pub next: Cursor,

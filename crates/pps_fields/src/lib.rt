@@ -18,7 +18,7 @@ use pps_record::{VvcPpsConfWinOffsets, VvcPpsScalingWinOffsets};
 pub mod fields;
 pub mod lists;
 
-#[derive(Drop)]
+#[derive(Clone, Copy)]
 pub struct HeadRead {
     pub value: Head,
     pub next: Cursor,
@@ -46,7 +46,7 @@ pub fn read_head(s: &[u8], c: Cursor) -> HeadRead
     }
 }
 
-#[derive(Drop)]
+#[derive(Clone, Copy)]
 pub struct ConfWinRead {
     pub value: VvcPpsConfWinOffsets,
     pub next: Cursor,
@@ -75,7 +75,7 @@ pub fn read_conf_win(s: &[u8], c: Cursor) -> ConfWinRead
     }
 }
 
-#[derive(Drop)]
+#[derive(Clone, Copy)]
 pub struct ScalingWinRead {
     pub value: VvcPpsScalingWinOffsets,
     pub next: Cursor,
@@ -104,7 +104,7 @@ pub fn read_scaling_win(s: &[u8], c: Cursor) -> ScalingWinRead
     }
 }
 
-#[derive(Drop)]
+#[derive(Clone, Copy)]
 pub struct KindRead {
     pub value: PictureKind,
     pub next: Cursor,
@@ -126,7 +126,7 @@ pub fn read_kind(s: &[u8], c: Cursor) -> KindRead
     }
 }
 
-#[derive(Drop)]
+#[derive(Clone, Copy)]
 pub struct ReferencesRead {
     pub value: References,
     pub next: Cursor,
@@ -164,7 +164,7 @@ pub fn read_references(s: &[u8], c: Cursor) -> ReferencesRead
     }
 }
 
-#[derive(Drop)]
+#[derive(Clone, Copy)]
 pub struct PictureHeaderRead {
     pub value: PictureHeaderFlags,
     pub next: Cursor,

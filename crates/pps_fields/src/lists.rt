@@ -13,7 +13,7 @@ use slice_loop::CtbCount;
 use tile_sizes::uniform_sizes;
 
 // How many values were read and stored, and the cursor behind them.
-#[derive(Drop)]
+#[derive(Clone, Copy)]
 pub struct ListRead {
     pub count: u32,
     pub next: Cursor,
@@ -36,7 +36,7 @@ fn store(table: &mut [u32], from: usize, i: u32, v: u32)
 
 // The explicit sizes of an axis of tiles or slices: how many were read and stored, the size that repeats behind them,
 // how many sizes there are in all, whether the explicit ones fit the axis, and the cursor behind them.
-#[derive(Drop)]
+#[derive(Clone, Copy)]
 pub struct AxisRead {
     pub count: u32,
     pub uniform: u32,

@@ -20,7 +20,7 @@ mod slicing;
 mod tiles;
 
 // The block, zero throughout where reading was refused; its lists are in their tables.
-#[derive(Drop)]
+#[derive(Clone, Copy)]
 pub struct PartitionRead {
     pub value: VvcPpsPartition,
     pub next: Cursor,

@@ -20,7 +20,7 @@ use pps_tables::ENTRY_LEN;
 use slice_loop::SliceIdx;
 use tile_sizes::MAX_NUM_SLICES_MINUS1;
 
-#[derive(Drop)]
+#[derive(Clone, Copy)]
 pub struct SliceFlagsRead {
     pub across_tiles: u8,
     pub rect: u8,
@@ -84,7 +84,7 @@ pub fn read_coded_slices(
 }
 
 // What stands behind the grid; the entries and explicit slice heights are in their tables.
-#[derive(Drop)]
+#[derive(Clone, Copy)]
 pub struct SlicingRead {
     pub across_tiles: u8,
     pub rect: u8,

@@ -17,7 +17,7 @@ use tables::places::put_u32;
 use tile_sizes::{MAX_TILE_COLUMNS, MAX_TILES, in_ctbs, next_size, within_limits};
 
 // The CTU size field, the axes of the grid, and the picture's height; the cursor stands behind the rows.
-#[derive(Drop)]
+#[derive(Clone, Copy)]
 pub struct TileSizesRead {
     pub ctu: u8,
     pub columns: AxisRead,

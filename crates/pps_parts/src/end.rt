@@ -7,7 +7,7 @@ ghost use Rattle.pps_parts.specs.Ends.{extension_at};
 use bit_reader::Cursor;
 
 // The extension bits and the trailing bits: how many extension bits there are, and the cursor behind it all.
-#[derive(Drop)]
+#[derive(Clone, Copy)]
 pub struct EndRead {
     pub bits: usize,
     pub next: Cursor,

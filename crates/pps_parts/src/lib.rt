@@ -23,7 +23,7 @@ use pps_record::{
 pub mod end;
 pub mod taken;
 
-#[derive(Drop)]
+#[derive(Clone, Copy)]
 pub struct FrontRead {
     pub head: Head,
     pub conf_win: VvcPpsConfWinOffsets,
@@ -60,7 +60,7 @@ pub fn read_front(s: &[u8], ids: &mut [u32], c: Cursor) -> FrontRead
     }
 }
 
-#[derive(Drop)]
+#[derive(Clone, Copy)]
 pub struct BackRead {
     pub references: References,
     pub chroma: VvcPpsChromaToolOffsets,

@@ -84,7 +84,7 @@ pub fn put_size_in_tiles(
 }
 
 // The index of an entry's last slice, unless there is a refusal.
-#[derive(Drop)]
+#[derive(Clone, Copy)]
 pub struct SplitPut {
     pub last: SliceIdx,
     pub next: Sink,
@@ -156,7 +156,7 @@ fn inside(ctx: SliceLoopCtx, tile: TileIdx) -> bool
 }
 
 // Where the next entry stands, unless there is a refusal.
-#[derive(Drop)]
+#[derive(Clone, Copy)]
 pub struct SlicePut {
     pub slice: SliceIdx,
     pub tile: TileIdx,

@@ -14,7 +14,7 @@ pub mod lengths;
 
 // pps_conf_win_offsets
 #[repr(C)]
-#[derive(Drop)]
+#[derive(Clone, Copy)]
 pub struct VvcPpsConfWinOffsets {
     pub present: u8,
     pub pps_conf_win_left_offset: u32,
@@ -25,7 +25,7 @@ pub struct VvcPpsConfWinOffsets {
 
 // pps_scaling_win_offsets
 #[repr(C)]
-#[derive(Drop)]
+#[derive(Clone, Copy)]
 pub struct VvcPpsScalingWinOffsets {
     pub present: u8,
     pub pps_scaling_win_left_offset: i32,
@@ -36,7 +36,7 @@ pub struct VvcPpsScalingWinOffsets {
 
 // The ids are the first num_subpic_ids of their table.
 #[repr(C)]
-#[derive(Drop)]
+#[derive(Clone, Copy)]
 pub struct VvcPpsSubpicIdMapping {
     pub present: u8,
     pub pps_num_subpics_minus1: u32,
@@ -47,7 +47,7 @@ pub struct VvcPpsSubpicIdMapping {
 // The explicit tile sizes and the slice entries are the first so many of their tables; the split heights are taken by
 // the entries in order.
 #[repr(C)]
-#[derive(Drop)]
+#[derive(Clone, Copy)]
 pub struct VvcPpsPartition {
     pub present: u8,
     pub pps_log2_ctu_size_minus5: u8,
@@ -64,12 +64,12 @@ pub struct VvcPpsPartition {
 
 // A triple of the list: cb, cr, joint.
 #[repr(C)]
-#[derive(Drop)]
+#[derive(Clone, Copy)]
 pub struct VvcQpOffsets(pub [i32; 3]);
 
 // The triples of the list are passed beside the record; the joint flag says whether their third offsets are coded.
 #[repr(C)]
-#[derive(Drop)]
+#[derive(Clone, Copy)]
 pub struct VvcPpsChromaToolOffsets {
     pub present: u8,
     pub pps_cb_qp_offset: i32,
@@ -82,7 +82,7 @@ pub struct VvcPpsChromaToolOffsets {
 }
 
 #[repr(C)]
-#[derive(Drop)]
+#[derive(Clone, Copy)]
 pub struct VvcPpsDeblocking {
     pub present: u8,
     pub pps_deblocking_filter_override_enabled_flag: u8,
@@ -98,7 +98,7 @@ pub struct VvcPpsDeblocking {
 
 // Extension bits stay in the bytes that they were read from: their first bit and their number.
 #[repr(C)]
-#[derive(Drop)]
+#[derive(Clone, Copy)]
 pub struct VvcPps {
     pub pps_pic_parameter_set_id: u8,
     pub pps_seq_parameter_set_id: u8,
@@ -136,7 +136,7 @@ pub struct VvcPps {
 }
 
 // A count of CTBs, or the number of a refusal.
-#[derive(Drop)]
+#[derive(Clone, Copy)]
 pub enum Ctbs {
     Count(u32),
     Refused(u8),

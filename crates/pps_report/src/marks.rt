@@ -3,7 +3,7 @@ use crate::out::{number, put};
 use crate::scale::{Frame, across, down, least, minus, plus};
 
 // A rectangle in units.
-#[derive(Drop)]
+#[derive(Clone, Copy)]
 pub struct Box {
     pub x: u32,
     pub y: u32,

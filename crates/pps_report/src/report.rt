@@ -12,7 +12,7 @@ use pps_tables::ENTRY_LEN;
 use tile_grid::{CoverAnswer, PlanAnswer, TileGrid};
 
 // A refusal, or 0 and the picture: its size in luma samples, its tiles and its slices.
-#[derive(Drop)]
+#[derive(Clone, Copy)]
 pub struct Report {
     pub refused: u8,
     pub bytes_taken: usize,

@@ -4,7 +4,7 @@
 const WIDTH: u32 = 9600;
 
 // The picture in CTBs, its height in units, and the width of a slice's border.
-#[derive(Drop)]
+#[derive(Clone, Copy)]
 pub struct Frame {
     pub ctbs_across: u32,
     pub ctbs_down: u32,

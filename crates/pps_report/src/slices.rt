@@ -6,7 +6,7 @@ use crate::scale::Frame;
 use tile_sizes::MAX_SLICES;
 
 // How many slices hold a block, as far as it matters.
-#[derive(Drop)]
+#[derive(Clone, Copy)]
 pub enum Held {
     Never,
     Once,

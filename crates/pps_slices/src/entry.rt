@@ -10,7 +10,7 @@ use slice_loop::{SliceIdx, SliceLoopCtx, TileIdx};
 
 // An entry, but for its explicit slice heights, which are in their table; where the next one stands; and the cursor
 // behind it.
-#[derive(Drop)]
+#[derive(Clone, Copy)]
 pub struct RectSliceRead {
     pub width: u32,
     pub height: u32,

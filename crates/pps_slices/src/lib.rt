@@ -22,7 +22,7 @@ mod parts;
 mod put;
 
 // How many entries were read, and the cursor behind them.
-#[derive(Drop)]
+#[derive(Clone, Copy)]
 pub struct RectSlicesRead {
     pub count: u32,
     pub next: Cursor,

@@ -123,7 +123,7 @@ pub fn slice_after(n: SliceIdx, last: SliceIdx) -> SliceIdx
 }
 
 // How many explicit heights a tile has, and the index of its last slice.
-#[derive(Drop)]
+#[derive(Clone, Copy)]
 pub struct SplitRead {
     pub count: u32,
     pub last: SliceIdx,
@@ -168,7 +168,7 @@ pub fn read_split(
 }
 
 // Whether a delta is coded, it, and the next slice's tile.
-#[derive(Drop)]
+#[derive(Clone, Copy)]
 pub struct MoveRead {
     pub coded: bool,
     pub delta: i32,

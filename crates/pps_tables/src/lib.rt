@@ -75,7 +75,7 @@ pub fn put_row(entries: &mut [[u32; ENTRY_LEN]], i: u32, row: [u32; ENTRY_LEN])
 }
 
 // A slice entry by its parts.
-#[derive(Drop)]
+#[derive(Clone, Copy)]
 pub struct RectSliceEntry {
     pub width: u32,
     pub height: u32,

@@ -120,7 +120,7 @@ fn slice_after(slice: SliceIdx, count: u32) -> SliceIdx
 }
 
 // The number of the first test that an entry fails, or 0 and where the next one stands.
-#[derive(Drop)]
+#[derive(Clone, Copy)]
 pub struct EntryStep {
     pub refused: u8,
     pub slice: SliceIdx,

@@ -11,17 +11,17 @@ mod steps;
 use steps::{held, moved, refused_18, row_start, signed_parts};
 
 // A tile's index, a slice's index and a count of CTBs: none can stand in for another.
-#[derive(Drop)]
+#[derive(Clone, Copy)]
 pub struct TileIdx(pub u32);
 
-#[derive(Drop)]
+#[derive(Clone, Copy)]
 pub struct SliceIdx(pub u32);
 
-#[derive(Drop)]
+#[derive(Clone, Copy)]
 pub struct CtbCount(pub u32);
 
 // What the slice loop goes by, the row heights being lent beside it.
-#[derive(Drop)]
+#[derive(Clone, Copy)]
 pub struct SliceLoopCtx {
     pub num_tile_columns: u32,
     pub num_tile_rows: u32,
@@ -30,14 +30,14 @@ pub struct SliceLoopCtx {
 }
 
 // 18, or 0 and the tile.
-#[derive(Drop)]
+#[derive(Clone, Copy)]
 pub struct NextTile {
     pub refused: u8,
     pub tile_idx: TileIdx,
 }
 
 // The column and the row of a tile.
-#[derive(Drop)]
+#[derive(Clone, Copy)]
 pub struct TilePlace {
     pub x: u32,
     pub y: u32,

@@ -5,7 +5,7 @@ ghost use Rattle.slice_loop.specs.Answers.{tile_idx_of, no_tile, is_negative};
 use crate::{NextTile, TileIdx};
 
 // A delta's sign and magnitude.
-#[derive(Drop)]
+#[derive(Clone, Copy)]
 pub struct SignedParts {
     pub negative: bool,
     pub size: u32,

@@ -30,7 +30,7 @@ mod stack;
 mod starts;
 
 // The tile grid, in CTBs; places not in use are 0.
-#[derive(Drop)]
+#[derive(Clone, Copy)]
 pub struct TileGrid {
     pub num_tile_columns: u32,
     pub num_tile_rows: u32,
@@ -40,7 +40,7 @@ pub struct TileGrid {
 
 // A refusal, or 0 and the grid. The grid stands first: after a byte its 4 KB would start 4 bytes in, and a copy of them
 // take 20 times as long.
-#[derive(Drop)]
+#[derive(Clone, Copy)]
 pub struct GridAnswer {
     pub grid: TileGrid,
     pub refused: u8,
@@ -48,7 +48,7 @@ pub struct GridAnswer {
 
 // A refusal, or 0 and the plan: each slice's left, top, width and height in CTBs, by slice index; places not in use
 // are 0.
-#[derive(Drop)]
+#[derive(Clone, Copy)]
 pub struct PlanAnswer {
     pub refused: u8,
     pub num_slices: u32,
@@ -60,7 +60,7 @@ pub struct PlanAnswer {
 
 // A refusal, or what the slices cover: no plan, every block once, a tile in no slice, or a tile whose blocks lie in
 // several.
-#[derive(Drop)]
+#[derive(Clone, Copy)]
 pub enum CoverAnswer {
     Refused(u8),
     NoPlan,

@@ -24,7 +24,7 @@ use tables::places::at_most;
 use tile_sizes::{MAX_SLICES, MAX_TILE_COLUMNS, MAX_TILES};
 
 // The slices in CTBs by slice index, and the groups in tiles; places not in use are 0.
-#[derive(Drop)]
+#[derive(Clone, Copy)]
 pub struct Placed {
     pub num_slices: u32,
     pub left: [u32; MAX_SLICES as usize],
@@ -39,7 +39,7 @@ pub struct Placed {
 }
 
 // A refusal, or 0; whether slices are coded; if so, the columns and rows of the grid, and what is placed in it.
-#[derive(Drop)]
+#[derive(Clone, Copy)]
 pub struct PlacedIn {
     pub refused: u8,
     pub planned: bool,

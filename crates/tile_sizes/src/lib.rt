@@ -60,7 +60,7 @@ pub fn in_ctbs(samples: u32, log2_ctu_size_minus5: u8) -> CtbCount
 }
 
 // How many sizes there are on an axis, 0 where the explicit ones pass it.
-#[derive(Drop)]
+#[derive(Clone, Copy)]
 pub struct SizeCount {
     pub fits: bool,
     pub count: u32,
@@ -150,7 +150,7 @@ pub fn some_at_least(limit: CtbCount, sizes_minus1: &[u32]) -> bool
 }
 
 // 16, or 0 and NumSlicesInTile.
-#[derive(Drop)]
+#[derive(Clone, Copy)]
 pub struct SlicesInTile {
     pub refused: u8,
     pub num_slices: u32,

@@ -45,21 +45,21 @@ pub extern "C" fn vvc_version() -> u32
 }
 
 #[repr(C)]
-#[derive(Drop)]
+#[derive(Clone, Copy)]
 pub struct VvcByteCount {
     pub refused: u8,
     pub bytes: usize,
 }
 
 #[repr(C)]
-#[derive(Drop)]
+#[derive(Clone, Copy)]
 pub struct VvcNalHeaderRead {
     pub refused: u8,
     pub header: VvcNalHeader,
 }
 
 #[repr(C)]
-#[derive(Drop)]
+#[derive(Clone, Copy)]
 pub struct VvcUeSize {
     pub refused: u8,
     pub bits: u32,

@@ -12,7 +12,7 @@ use tile_grid::{CoverAnswer, GridAnswer, PlanAnswer, TileGrid};
 use tile_sizes::{MAX_SLICES, MAX_TILE_COLUMNS, MAX_TILES};
 
 #[repr(C)]
-#[derive(Drop)]
+#[derive(Clone, Copy)]
 pub struct VvcGridAnswer {
     pub refused: u8,
     pub num_tile_columns: u32,
@@ -22,7 +22,7 @@ pub struct VvcGridAnswer {
 }
 
 #[repr(C)]
-#[derive(Drop)]
+#[derive(Clone, Copy)]
 pub struct VvcPlanAnswer {
     pub refused: u8,
     pub num_slices: u32,
@@ -34,7 +34,7 @@ pub struct VvcPlanAnswer {
 
 // `refused` beside the kind REFUSED, `tile` beside GAP and DOUBLE; else they are 0.
 #[repr(C)]
-#[derive(Drop)]
+#[derive(Clone, Copy)]
 pub struct VvcCoverAnswer {
     pub kind: u8,
     pub refused: u8,

@@ -11,7 +11,7 @@ use pps_record::{VvcPps, VvcQpOffsets};
 use pps_tables::ENTRY_LEN;
 
 #[repr(C)]
-#[derive(Drop)]
+#[derive(Clone, Copy)]
 pub struct VvcPpsRead {
     pub refused: u8,
     pub bytes_taken: usize,

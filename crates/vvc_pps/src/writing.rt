@@ -10,7 +10,7 @@ use pps_record::{VvcPps, VvcQpOffsets};
 use pps_tables::ENTRY_LEN;
 
 #[repr(C)]
-#[derive(Drop)]
+#[derive(Clone, Copy)]
 pub struct VvcQpOffsetList {
     pub triples: [VvcQpOffsets; 6],
 }

@@ -10,3 +10,7 @@ returns-then-at-end c = sym (onward_past _ _ _ (omega arith))
 
 pub returns-then-n-end : goal.returns-then-n-end
 returns-then-n-end c = sym (onward-is _ _ _ (omega arith))
+
+pub returns : goal.returns
+unfolding onward
+returns c = omega arith

@@ -6,4 +6,4 @@ pub signed_of-requires : goal.signed_of-requires
 signed_of-requires c = rw c.ue-k.ensures (ue-small _ _)
 
 pub returns : goal.returns
-returns c = se-made _ _ _ _ c.ue-k.ensures c.Signed-of.ensures (search rules)
+returns c = se-made _ _ _ _ c.ue-k.ensures c.signed_of.ensures (search rules)

@@ -21,7 +21,7 @@ pub overflow_sub-value : goal.overflow_sub-value
 overflow_sub-value c = omega (arith, pow_pos c.zeros_from-z.result)
 
 pub overflow_add-value : goal.overflow_add-value
-overflow_add-value c = c.zeros_from-z.result in
+overflow_add-value c = let z = c.zeros_from-z.result in
     omega (arith, pow_mono {i = z} {j = 31} (omega arith), bits-lt c.args.s.now (c.args.c.at + z + 1) z)
 
 pub returns : goal.returns

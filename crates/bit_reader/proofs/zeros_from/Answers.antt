@@ -11,15 +11,15 @@ pub loop-k-init : goal.loop-k-init
 loop-k-init c = (omega arith, rw (zero-add, add-zero))
 
 pub returns-then-p-end : goal.returns-then-p-end
-returns-then-p-end c = c.args.at + c.loop-k.k in
+returns-then-p-end c = let p = c.args.at + c.loop-k.k in
     omega (arith, zeros-none c.args.s.now p (32 - c.loop-k.k) (stops_past c.args.s.now p (omega arith)))
 
 pub returns-then-bit_at-eq1 : goal.returns-then-bit_at-eq1
-returns-then-bit_at-eq1 c = c.args.at + c.loop-k.k in
+returns-then-bit_at-eq1 c = let p = c.args.at + c.loop-k.k in
     omega (arith, zeros-none c.args.s.now p (32 - c.loop-k.k) (stops-one c.args.s.now p (sym c.bit_at.ensures ∙ c.if-bit_at-eq1.true)))
 
 pub loop-k-preserved : goal.loop-k-preserved
-loop-k-preserved c = c.args.s.now in
+loop-k-preserved c = let s = c.args.s.now in
     let at = c.args.at in
     let k = c.loop-k.k in
     omega (arith, zeros-count s at k 32 (stops-not s (at + k) (omega arith) (λ e. c.if-bit_at-eq1.false (c.bit_at.ensures ∙ e))) (omega arith))

@@ -15,13 +15,11 @@ use Rattle.nal.proofs.Steps.{unescape-kept, unescape_dropped, unescape-over, une
 use Rattle.nal.proofs.ebsp_to_rbsp.Goals as goal
 
 pub returns-then-ebsp-gt-MAX_BYTES : goal.returns-then-ebsp-gt-MAX_BYTES
-returns-then-ebsp-gt-MAX_BYTES c = let long : 65535 < length c.args.ebsp.now = omega arith in
-    (sym (unescape-long _ _ long).0, sym (unescape-long _ _ long).1)
+returns-then-ebsp-gt-MAX_BYTES c = let long : 65535 < length c.args.ebsp.now = omega arith in record { value = sym (unescape-long _ _ long).0; out_after = sym (unescape-long _ _ long).1 }
 
 pub returns-then-out-ebsp : goal.returns-then-out-ebsp
 returns-then-out-ebsp c = let within : length c.args.ebsp.now ≤ 65535 = omega arith in
-    let short : length c.args.out.now < length c.args.ebsp.now = omega arith in
-    (sym (unescape-short _ _ within short).0, sym (unescape-short _ _ within short).1)
+    let short : length c.args.out.now < length c.args.ebsp.now = omega arith in record { value = sym (unescape-short _ _ within short).0; out_after = sym (unescape-short _ _ within short).1 }
 
 pub loop-i-init : goal.loop-i-init
 unfolding unescape
@@ -37,15 +35,14 @@ pub bounds-out-put-then-not-is_escape : goal.bounds-out-put-then-not-is_escape
 bounds-out-put-then-not-is_escape c = omega (arith, c.loop-i.invariant.2.same)
 
 pub loop-i-preserved-then-not-is_escape : goal.loop-i-preserved-then-not-is_escape
-loop-i-preserved-then-not-is_escape c = rw c.zero_run-z.ensures (omega arith, omega arith, put_byte c.loop-i.invariant.2 (unescape-kept _ _ _ c.loop-i-test.true (sym c.is_escape.ensures ∙ not-true c.is_escape.result c.if-not-is_escape.true)))
+loop-i-preserved-then-not-is_escape c = rw c.zero_run-z.ensures (omega arith, omega arith, put_byte c.loop-i.invariant.2 (unescape-kept _ _ _ c.loop-i-test.true (sym c.is_escape.ensures ∙ c.if-not-is_escape.true)))
 
 pub loop-i-preserved : goal.loop-i-preserved
-loop-i-preserved c = (omega arith, omega arith, put-none c.loop-i.invariant.2 (unescape_dropped _ _ _ c.loop-i-test.true (sym c.is_escape.ensures ∙ not-false c.is_escape.result c.if-not-is_escape.false)))
+loop-i-preserved c = (omega arith, omega arith, put-none c.loop-i.invariant.2 (unescape_dropped _ _ _ c.loop-i-test.true (sym c.is_escape.ensures ∙ c.if-not-is_escape.false)))
 
 pub shape_of-out : goal.shape_of-out
 shape_of-out c = c.loop-i.invariant.2.same
 
 pub returns : goal.returns
 returns c = let all = put-done c.loop-i.invariant.2 (unescape-end _ _ _ c.loop-i.invariant.0 c.loop-i-test.false) (le_trans (unescape-length _) c.if-out-ebsp.false) in
-    let right = unescape-done c.args.ebsp.now c.args.out.now c.if-ebsp-gt-MAX_BYTES.false c.if-out-ebsp.false in
-    (ap Bytes all.0 ∙ sym right.0, all.1 ∙ sym right.1)
+    let right = unescape-done c.args.ebsp.now c.args.out.now c.if-ebsp-gt-MAX_BYTES.false c.if-out-ebsp.false in record { value = ap Bytes all.0 ∙ sym right.0; out_after = all.1 ∙ sym right.1 }

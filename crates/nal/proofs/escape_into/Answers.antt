@@ -56,10 +56,10 @@ pub shape_of-out-then-z-ge2 : goal.shape_of-out-then-z-ge2
 shape_of-out-then-z-ge2 c = (put_byte c.loop-i.invariant.1 (escape-end_three _ _ _ c.loop-i.invariant.0 c.loop-i-test.false c.if-z-ge2.true)).same
 
 pub returns-then-z-ge2 : goal.returns-then-z-ge2
-returns-then-z-ge2 c = put-done (put_byte c.loop-i.invariant.1 (escape-end_three _ _ _ c.loop-i.invariant.0 c.loop-i-test.false c.if-z-ge2.true)) refl c.requires
+returns-then-z-ge2 c =  record { value = (put-done (put_byte c.loop-i.invariant.1 (escape-end_three _ _ _ c.loop-i.invariant.0 c.loop-i-test.false c.if-z-ge2.true)) refl c.requires).0; out_after = (put-done (put_byte c.loop-i.invariant.1 (escape-end_three _ _ _ c.loop-i.invariant.0 c.loop-i-test.false c.if-z-ge2.true)) refl c.requires).1 }
 
 pub shape_of-out : goal.shape_of-out
 shape_of-out c = c.loop-i.invariant.1.same
 
 pub returns : goal.returns
-returns c = put-done c.loop-i.invariant.1 (escape-end-none _ _ _ c.loop-i.invariant.0 c.loop-i-test.false c.if-z-ge2.false) c.requires
+returns c =  record { value = (put-done c.loop-i.invariant.1 (escape-end-none _ _ _ c.loop-i.invariant.0 c.loop-i-test.false c.if-z-ge2.false) c.requires).0; out_after = (put-done c.loop-i.invariant.1 (escape-end-none _ _ _ c.loop-i.invariant.0 c.loop-i-test.false c.if-z-ge2.false) c.requires).1 }

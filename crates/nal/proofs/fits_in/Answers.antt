@@ -10,11 +10,8 @@ use Rattle.nal.specs.Escape.{escape}
 use Rattle.nal.specs.Lengths.{escape-length}
 use Rattle.nal.proofs.fits_in.Goals as goal
 
-pub fits_in_spec : {M : Type 1} → statement M
-fits_in_spec = tie.close (tie.spec add_most returns escaped-len-requires returns-2)
-
 pub returns-then-most-room : goal.returns-then-most-room
-returns-then-most-room c = omega (arith, escape-length c.args.rbsp.now) in sym (le-leb _ _ h)
+returns-then-most-room c = let h : length (escape c.args.rbsp.now) ≤ c.args.room = omega (arith, escape-length c.args.rbsp.now) in sym (le-leb _ _ h)
 
 pub returns : goal.returns
 returns c = ap (λ (n : ℕ). leb n c.args.room) c.escaped_len.ensures

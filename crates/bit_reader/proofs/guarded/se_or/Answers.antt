@@ -10,5 +10,5 @@ pub returns-then-on : goal.returns-then-on
 returns-then-on c = c.se.ensures ∙ sym (signed-coded _ _ _ _ c.if-on.true)
 
 pub returns : goal.returns
-returns c = search rules in
+returns c = let fits : SFits w32 c.args.inferred = search rules in
     rw (to_z-of_z fits) (sym (signed-absent _ _ _ _ c.if-on.false))

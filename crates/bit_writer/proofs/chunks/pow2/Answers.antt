@@ -1,0 +1,6 @@
+use borrow.Author.Rules.{rules}
+use Rattle.bit_writer.proofs.Chunked.{power}
+use Rattle.bit_writer.proofs.chunks.pow2.Goals as goal
+
+pub returns : goal.returns
+returns c = power _ c.requires

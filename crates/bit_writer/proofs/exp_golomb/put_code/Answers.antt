@@ -1,0 +1,19 @@
+use native.Mathlib.Omega.{arith}
+use borrow.Author.Rules.{rules}
+use Rattle.bit_writer.proofs.Coding.{code-short, code-long, code-width}
+use Rattle.bit_writer.proofs.exp_golomb.put_code.Goals as goal
+
+pub returns-then-z-lt32 : goal.returns-then-z-lt32
+returns-then-z-lt32 c = code-short _ _ _ c.top-z.ensures c.put_word.ensures
+
+pub put_word-t-requires : goal.put_word-t-requires
+put_word-t-requires c = omega (arith, c.top-z.ensures, code-width c.args.k c.requires)
+
+pub overflow_add-z-2 : goal.overflow_add-z-2
+overflow_add-z-2 c = omega (arith, c.top-z.ensures, code-width c.args.k c.requires)
+
+pub put_word-requires-2 : goal.put_word-requires-2
+put_word-requires-2 c = omega (arith, c.top-z.ensures, code-width c.args.k c.requires)
+
+pub returns : goal.returns
+returns c = code-long _ _ _ c.top-z.ensures c.put_word-t.ensures c.put_word-2.ensures

@@ -1,0 +1,11 @@
+use Prim.Native.Nat.{ℕ}
+use mathlib.Core.List.{List}
+use mathlib.Core.Path.{ap, ap₂, ◌∙◌}
+use lib.ListN.{set}
+use borrow.Author.Rules.{rules}
+use Rattle.bit_writer.specs.declared.Sink.{Sink}
+use Rattle.bit_writer.specs.Writing.{sink_over}
+use Rattle.bit_writer.proofs.start_nal.Goals as goal
+
+pub returns : goal.returns
+returns c = ap₂ (λ (s : Sink) (l : List ℕ). sink_over s l) c.sink_at.ensures (c.store-2.ensures ∙ ap (λ (l : List ℕ). set l 1 c.args.second) c.store.ensures)

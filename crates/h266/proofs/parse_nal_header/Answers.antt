@@ -1,0 +1,10 @@
+use native.Mathlib.Omega.{arith}
+use Rattle.h266.specs.Header.{header-none, header_made}
+use borrow.Author.Rules.{rules}
+use Rattle.h266.proofs.parse_nal_header.Goals as goal
+
+pub returns-then-nal-lt2 : goal.returns-then-nal-lt2
+returns-then-nal-lt2 c = header-none _ c.if-nal-lt2.true
+
+pub returns : goal.returns
+returns c = header_made _ (omega arith) (omega (arith, c.shared_slice_known-1.given 0)) (omega (arith, c.shared_slice_known-1.given 1))
