@@ -2,7 +2,6 @@
 // src/h266/pps.rs), each as its description says.
 #![tactic(auto)]
 
-
 pub mod chroma;
 pub mod deblocking;
 pub mod subpic_ids;

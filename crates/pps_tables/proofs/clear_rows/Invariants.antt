@@ -1,0 +1,13 @@
+use Prim.Native.Nat.{◌-◌}
+use native.Mathlib.Omega.{arith}
+use lib.ListN.{length}
+use borrow.Author.Rules.{rules}
+use Rattle.tables.proofs.Clearing.{Clearing, begins, goes_on, ends}
+use Rattle.pps_tables.specs.Rows.{no_entry}
+use Rattle.pps_tables.proofs.clear_rows.Given as goal
+
+abbrev pub invariant-loop-i : goal.invariant-loop-i
+invariant-loop-i l = Clearing no_entry l.initial.entries l.entries l.i
+
+abbrev pub decreases-loop-i : goal.decreases-loop-i
+decreases-loop-i l = length l.initial.entries - l.i
