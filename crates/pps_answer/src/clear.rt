@@ -1,6 +1,6 @@
 // Clearing the lent tables.
 ghost use Rattle.std.specs.Prelude.{cond, ◌≡◌};
-ghost use Rattle.pps_tables.specs.Parameters.{before, after};
+ghost use Rattle.pps_tables.specs.Mutable.{before, after};
 ghost use Rattle.pps_answer.specs.Lending.{cleared};
 
 use pps_tables::{ENTRY_LEN, clear_rows};

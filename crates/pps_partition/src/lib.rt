@@ -4,7 +4,7 @@
 ghost use Rattle.std.specs.Prelude.{◌≡◌};
 ghost use Rattle.std.proofs.lemmas.List.Edits.{sets};
 ghost use Rattle.pps_syntax.specs.PartitionSyntax.{partition};
-ghost use Rattle.pps_tables.specs.Parameters.{slices_before, slices_after};
+ghost use Rattle.pps_tables.specs.Mutable.{slices_before, slices_after};
 ghost use Rattle.syntax.specs.Syntax.{parse};
 ghost use Rattle.pps_slices.specs.Loop.{slices_left};
 ghost use Rattle.pps_partition.specs.PartitionAnswer.{partition_of, partition_answer, partition_left};

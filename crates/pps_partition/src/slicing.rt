@@ -2,7 +2,7 @@
 // flag.
 ghost use Rattle.std.specs.Prelude.{◌≤◌, ◌≡◌, length, take};
 ghost use Rattle.partition.specs.Grid.{Grid, max_tiles};
-ghost use Rattle.pps_tables.specs.Parameters.{slices_before, slices_after};
+ghost use Rattle.pps_tables.specs.Mutable.{slices_before, slices_after};
 ghost use Rattle.syntax.specs.Element.{parsed};
 ghost use Rattle.syntax.specs.Syntax.{parse};
 ghost use Rattle.pps_slices.specs.Grids.{GridHas};

@@ -2,6 +2,5 @@
 // fields before and behind it, and the extension bits.
 #![tactic(auto)]
 
-
 pub mod extension;
 pub mod parts;

@@ -4,7 +4,7 @@
 ghost use Rattle.std.specs.Prelude.{true, ◌≡◌, length};
 ghost use Rattle.pps_syntax.specs.FromRecord.{lengths_fit};
 ghost use Rattle.pps_syntax.specs.Rbsp.{read_rbsp};
-ghost use Rattle.pps_tables.specs.Parameters.{before, after};
+ghost use Rattle.pps_tables.specs.Mutable.{before, after};
 ghost use Rattle.pps_answer.specs.Answers.{answer_of};
 ghost use Rattle.pps_answer.specs.Lending.{after_fields};
 ghost use Rattle.pps_answer.specs.ParsePps.{outcome, parse_pps};

@@ -1,7 +1,7 @@
 // The RBSP of a set (H.266 7.3.2.5), read into the lent tables.
 ghost use Rattle.std.specs.Prelude.{◌≡◌, length};
 ghost use Rattle.pps_syntax.specs.Rbsp.{ReadSet, accepted, read_rbsp};
-ghost use Rattle.pps_tables.specs.Parameters.{slices_before, slices_after, before, after};
+ghost use Rattle.pps_tables.specs.Mutable.{slices_before, slices_after, before, after};
 ghost use Rattle.syntax.specs.Elements.{one_if};
 ghost use Rattle.pps_answer.specs.Answers.{answer_of};
 ghost use Rattle.pps_read.specs.Block.{blocks_read, block_answer, BlocksPut};

@@ -4,7 +4,7 @@
 
 ghost use Rattle.std.specs.Prelude.{◌≡◌, ◌*◌, ◌≤◌, length, take};
 ghost use Rattle.partition.specs.Grid.{Grid, max_tiles};
-ghost use Rattle.pps_tables.specs.Parameters.{slices_before, slices_after};
+ghost use Rattle.pps_tables.specs.Mutable.{slices_before, slices_after};
 ghost use Rattle.slice_loop.specs.Loop.{LoopOver};
 ghost use Rattle.pps_slices.specs.Held.{LoopRead};
 ghost use Rattle.pps_slices.specs.Grids.{GridHas};

@@ -1,2 +1,3 @@
+pub mod Mutable
 pub mod Parameters
 pub mod Rows

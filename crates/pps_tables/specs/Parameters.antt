@@ -1,4 +1,4 @@
--- The lent tables of a function, as it finds and leaves them: definitions over the reference parameters themselves, for contracts.
+-- The tables lent to be read, as a function finds them: definitions over the `&` parameters themselves, for contracts (Mutable: `&mut`).
 use Rattle.std.specs.Prelude.{ℕ, List}
 use Rattle.std.specs.Borrow.{Bor}
 use denote.Triple.Both.{Both}

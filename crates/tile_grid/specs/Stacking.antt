@@ -9,7 +9,7 @@ use Rattle.partition.specs.Entry.{split_heights}
 use Rattle.partition.specs.Groups.{stacked}
 use Rattle.partition.specs.Sizes.{sum, explicit_sizes, uniform_size, axis_sizes, Fit, uniform_pos}
 use Rattle.partition.specs.Slices.{Slice}
-use Rattle.pps_tables.specs.Parameters.{Numbers}
+use Rattle.pps_tables.specs.Mutable.{Numbers}
 use Rattle.tile_sizes.specs.Answers.{next_size}
 use Rattle.tile_sizes.specs.Left.{sizes_left, none_left, uniform_step, next_fits, next-left, end-left, last-is, last_fits}
 

@@ -2,7 +2,7 @@
 // told by its length alone.
 ghost use Rattle.std.specs.Prelude.{◌≡◌};
 ghost use Rattle.pps_answer.specs.ParsePps.{parse_pps};
-ghost use Rattle.pps_tables.specs.Parameters.{before, after};
+ghost use Rattle.pps_tables.specs.Mutable.{before, after};
 ghost use Rattle.vvc_pps.specs.PpsAnswer.{pps_read, held_read, read_held};
 
 use crate::no_pps::no_pps;

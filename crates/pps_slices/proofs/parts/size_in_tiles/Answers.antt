@@ -1,0 +1,7 @@
+use mathlib.Core.Path.{refl}
+use Rattle.pps_fields.specs.FieldReads.{tested-made}
+use borrow.Author.Rules.{rules}
+use Rattle.pps_slices.proofs.parts.size_in_tiles.Goals as goal
+
+pub returns : goal.returns
+returns c = tested-made _ 15 c.ue_or-v.result _ _ _ c.ue_or-v.ensures refl c.demand-next.ensures

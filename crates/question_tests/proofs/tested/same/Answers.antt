@@ -1,0 +1,6 @@
+use borrow.Author.Rules.{rules}
+use Rattle.question_tests.proofs.TestLaws.{same_true}
+use Rattle.question_tests.proofs.tested.same.Goals as goal
+
+pub returns-then-a : goal.returns-then-a
+returns-then-a c = same_true _ _ c.if-a.true
