@@ -1,0 +1,5 @@
+use borrow.Author.Rules.{rules}
+use Rattle.pps_put_slices.proofs.parts.inside.Goals as goal
+
+pub returns : goal.returns
+returns c = rw c.num_tiles-tiles.ensures

@@ -1,0 +1,14 @@
+use borrow.Author.Rules.{rules}
+use mathlib.Core.Path.{refl, sym}
+use native.Mathlib.Omega.{arith}
+use lib.Seq.{set_out}
+use Rattle.tile_grid.specs.Edges.{add_at}
+use Rattle.tile_grid.proofs.cover.add_at.Goals as goal
+
+pub returns-then-at-table : goal.returns-then-at-table
+unfolding add_at
+returns-then-at-table c = refl
+
+pub returns-else-at-table : goal.returns-else-at-table
+unfolding add_at
+returns-else-at-table c = sym (set_out _ _ _ (omega arith))

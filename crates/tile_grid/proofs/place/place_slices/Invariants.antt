@@ -1,0 +1,17 @@
+use borrow.Author.Rules.{rules}
+use Prim.Native.Nat.{◌-◌}
+use mathlib.Core.Path.{ap, sym}
+use native.Mathlib.Omega.{arith}
+use Rattle.pps_syntax.specs.SliceTables.{slice_tables}
+use Rattle.question_tests.specs.Refusing.{part-ends}
+use Rattle.tile_grid.specs.Placing.{Placing, placing_begins, placing_wide, placing_tall, placing_fits, placing_goes-on, last_fits, with_last, without-last, all_placed, from-within, part_starts, part_none, plan-lengths, group_lengths, blank}
+use Rattle.slice_loop.specs.declared.TileIdx.{TileIdx}
+use Rattle.tile_grid.specs.Stacking.{plan_tables}
+use Rattle.tile_grid.specs.Starts.{tiles-small}
+use Rattle.tile_grid.proofs.place.place_slices.Given as goal
+
+abbrev pub invariant-loop-i : goal.invariant-loop-i
+invariant-loop-i l = Placing l.column_widths l.row_heights l.deltas_on l.n.0 (slice_tables l.entries l.split_heights) l.count blank blank (plan_tables l.left l.top l.width l.height) (plan_tables l.tile_x l.tile_y l.columns l.rows) l.slice.0 l.tile.0 l.i l.from
+
+abbrev pub decreases-loop-i : goal.decreases-loop-i
+decreases-loop-i l = l.count - l.i
