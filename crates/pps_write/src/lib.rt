@@ -2,7 +2,7 @@
 // lent tables, into bytes that the caller lends.
 #![tactic(auto)]
 
-ghost use Rattle.std.specs.Prelude.{◌≡◌, ◌+◌, ◌*◌, leb};
+ghost use Rattle.std.specs.Prelude.{◌≡◌, ◌+◌, ◌*◌, ◌≤◌, ◌++◌, leb, length, drop};
 ghost use Rattle.pps_syntax.specs.WriteAnswers.{wrote, write_set, write_pps, write_pps_nal};
 ghost use Rattle.pps_tables.specs.Parameters.{before};
 ghost use Rattle.pps_write.specs.Runs.{counted};
@@ -21,6 +21,14 @@ fn bits_inside(first: usize, count: usize, len: usize) -> bool
     ensures { result ≡ leb (first + count) (len * 8) }
 {
     first / 8 + count / 8 + (first % 8 + count % 8 + 7) / 8 <= len
+}
+
+// The bytes stand at the front of the output.
+fn copy_front(from: &[u8], out: &mut [u8])
+    requires { length from.now ≤ length out.old }
+    ensures { out.new ≡ from.now ++ drop (length from.now) out.old }
+{
+    out[..from.len()].copy_from_slice(from);
 }
 
 // A run over bytes of its own finds any refusal and counts the bytes, so that a refused write changes nothing. What
@@ -58,7 +66,7 @@ fn write_counted(
         ByteCount::Refused(_number) => answer,
         ByteCount::Bytes(count) => {
             if count <= 1024 {
-                bytes::copy(&short[..count], out);
+                copy_front(&short[..count], out);
                 return answer;
             }
             put_set(

@@ -10,12 +10,11 @@ use Rattle.pps_parts.proofs.read_back.Goals as goal
 
 pub returns : goal.returns
 unfolding back
-returns c = let t = (c.read_chroma-t.ensures.value, (c.read_chroma-t.ensures.next, c.read_chroma-t.ensures.triples)) in
-    let p = parse chroma c.args.s.now c.read_references-r.result.next in
+returns c = let p = parse chroma c.args.s.now c.read_references-r.result.next in
     back-made p
     (reads-done _ _ _
     ∙ reads _ _ _ _ c.read_picture_header-h.ensures
-    ∙ reads _ _ _ _ (behind-chroma _ _ p t.0 t.1.0 c.read_deblocking-d.ensures)
+    ∙ reads _ _ _ _ (behind-chroma _ _ p c.read_chroma-t.ensures.value c.read_chroma-t.ensures.next c.read_deblocking-d.ensures)
     ∙ reads _ _ _ _ refl
     ∙ reads _ _ _ _ c.read_references-r.ensures)
-    t
+    (c.read_chroma-t.ensures.value, (c.read_chroma-t.ensures.next, c.read_chroma-t.ensures.triples))

@@ -1,0 +1,11 @@
+use borrow.Author.Rules.{rules}
+use Rattle.pps_answer.specs.Answers.{is_accepted}
+use Rattle.pps_answer.proofs.PpsRead.is_accepted.Goals as goal
+
+pub returns-in-Accepted : goal.returns-in-Accepted
+unfolding is_accepted
+returns-in-Accepted c = rw c.in-Accepted.is
+
+pub returns-in-Refused : goal.returns-in-Refused
+unfolding is_accepted
+returns-in-Refused c = rw c.in-Refused.is
