@@ -69,7 +69,7 @@ front-is : (xs o : List ℕ) (n : ℕ) → n ≡ length xs → length xs ≤ len
 unfolding over
 front-is xs o n e h = ap (take n) (sets_over o xs h) ∙ take_at xs (drop (length xs) o) n (sym e)
 
-over-is : (xs out : List ℕ) → take (length xs) xs ++ drop (length xs) out ≡ over xs out
+pub over-is : (xs out : List ℕ) → take (length xs) xs ++ drop (length xs) out ≡ over xs out
 unfolding over
 over-is xs out = ap (λ (l : List ℕ). l ++ drop (length xs) out) (ap (take (length xs)) (sym (append-nil xs)) ∙ take_at xs [] (length xs) refl)
 

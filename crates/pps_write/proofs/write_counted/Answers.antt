@@ -1,7 +1,7 @@
 use Prim.Native.Nat.{◌^◌, ◌<◌}
 use mathlib.Core.Path.{refl, sym, ◌∙◌}
 use native.Mathlib.Omega.{arith}
-use lib.ListN.{length}
+use lib.ListN.{length, take}
 use lib.Seq.{length-take-le}
 use Rattle.pps_syntax.specs.FromRecord.{lent}
 use Rattle.pps_syntax.specs.SliceTables.{slice_tables}
@@ -27,7 +27,7 @@ returns-then-count-le1024 c = let a = c.args in
     let t = lent a.subpic_ids.now a.tile_column_widths.now a.tile_row_heights.now (slice_tables a.entries.now a.split_heights.now) in
     let o = a.out.now in
     let small : length o < 2 ^ 63 = omega (arith, c.well_formed.1.1.1.1.1.1.1.1.1.0.1) in
-    own_copied a.nal a.pps a.triples t a.extension.now o _ small c.put_set-first.ensures (omega arith) _ c.in-Bytes.ensures refl (omega arith) (c.copy_front.ensures ∙ sym (over-is _ _))
+    own_copied a.nal a.pps a.triples t a.extension.now o _ small c.put_set-first.ensures (omega arith) _ c.in-Bytes.ensures refl (omega arith) (c.copy_front.ensures ∙ sym (over-is (take c.in-Bytes.count c.put_set-first.new.out) o))
 
 pub returns-in-Refused : goal.returns-in-Refused
 returns-in-Refused c = let a = c.args in
