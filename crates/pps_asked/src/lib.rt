@@ -1,3 +1,2 @@
 // What reading leaves, asked about by the grid, plan and cover questions: theorems alone.
 #![tactic(auto)]
-

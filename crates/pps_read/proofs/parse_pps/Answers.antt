@@ -12,7 +12,7 @@ returns-then-before-ne0 c = refused-before _ _ _ c.tables_long-long.ensures c.be
 pub unescape_payload-count-requires : goal.unescape_payload-count-requires
 unescape_payload-count-requires c = let a = c.args in
     let p = passed a.nal.now a.work.now _ c.tables_long-long.ensures c.before_fields-before.ensures c.if-before-ne0.false in
-    (p.header, (p.short, p.room))
+    record { in_bounds = p.header; unit_len_bound = p.short; unit_in_bounds = p.room }
 
 pub slice_bounds-read_into_cleared-end : goal.slice_bounds-read_into_cleared-end
 slice_bounds-read_into_cleared-end c = let a = c.args in
@@ -21,13 +21,13 @@ slice_bounds-read_into_cleared-end c = let a = c.args in
 
 pub slice_bounds-read_into_cleared-end-2 : goal.slice_bounds-read_into_cleared-end-2
 slice_bounds-read_into_cleared-end-2 c = let a = c.args in
-    let P = (c.unescape_payload-count.ensures.value, c.unescape_payload-count.ensures.work_after) in
-    P.0 ∙ ap (λ (l : List ℕ). length l) (sym (front-is a.nal.now a.work.now P.0 P.1))
+    let P = c.unescape_payload-count.ensures in
+    P.value ∙ ap (λ (l : List ℕ). length l) (sym (front-is a.nal.now a.work.now P.value P.work_after))
 
 pub read_into_cleared-requires : goal.read_into_cleared-requires
 read_into_cleared-requires c = let a = c.args in (passed a.nal.now a.work.now _ c.tables_long-long.ensures c.before_fields-before.ensures c.if-before-ne0.false).fit
 
 pub returns : goal.returns
 returns c = let a = c.args in
-    let P = (c.unescape_payload-count.ensures.value, c.unescape_payload-count.ensures.work_after) in
-    read-after a.nal.now a.work.now _ c.tables_long-long.ensures c.before_fields-before.ensures c.if-before-ne0.false P.1 (front-is a.nal.now a.work.now P.0 P.1) (c.read_into_cleared.ensures.answer, c.read_into_cleared.ensures.tables)
+    let P = c.unescape_payload-count.ensures in
+    read-after a.nal.now a.work.now _ c.tables_long-long.ensures c.before_fields-before.ensures c.if-before-ne0.false P.work_after (front-is a.nal.now a.work.now P.value P.work_after) (c.read_into_cleared.ensures.answer, c.read_into_cleared.ensures.tables)

@@ -22,16 +22,16 @@ pub returns : goal.returns
 returns c = let k = c.read_rbsp-read.auto in
     let z = c.clear_tables.auto in record { answer = (cleared-read _ _ _ _ _ _ c.clear_tables.ensures (c.read_rbsp-read.ensures.answer, c.read_rbsp-read.ensures.tables) c.is_accepted.ensures c.clear_unless.ensures c.requires
     (record {
-      ids = k.1.0 ∙ z.0;
-      columns = k.1.1.0 ∙ z.1.0;
-      rows = k.1.1.1.0 ∙ z.1.1.0;
-      entries = k.1.1.1.1.0 ∙ z.1.1.1.0;
-      split_heights = k.1.1.1.1.1.0 ∙ z.1.1.1.1.0;
+      ids = k.subpic_ids ∙ z.subpic_ids;
+      columns = k.tile_column_widths ∙ z.tile_column_widths;
+      rows = k.tile_row_heights ∙ z.tile_row_heights;
+      entries = k.entries ∙ z.entries;
+      split_heights = k.split_heights ∙ z.split_heights;
     })).0; tables = (cleared-read _ _ _ _ _ _ c.clear_tables.ensures (c.read_rbsp-read.ensures.answer, c.read_rbsp-read.ensures.tables) c.is_accepted.ensures c.clear_unless.ensures c.requires
     (record {
-      ids = k.1.0 ∙ z.0;
-      columns = k.1.1.0 ∙ z.1.0;
-      rows = k.1.1.1.0 ∙ z.1.1.0;
-      entries = k.1.1.1.1.0 ∙ z.1.1.1.0;
-      split_heights = k.1.1.1.1.1.0 ∙ z.1.1.1.1.0;
+      ids = k.subpic_ids ∙ z.subpic_ids;
+      columns = k.tile_column_widths ∙ z.tile_column_widths;
+      rows = k.tile_row_heights ∙ z.tile_row_heights;
+      entries = k.entries ∙ z.entries;
+      split_heights = k.split_heights ∙ z.split_heights;
     })).1 }

@@ -6,17 +6,11 @@ pub shape_of-subpic_ids : goal.shape_of-subpic_ids
 shape_of-subpic_ids c = c.read_front-front.auto.ids
 
 pub returns : goal.returns
-returns c = let F = (c.read_front-front.ensures.value, c.read_front-front.ensures.table) in
-    let B = (c.read_block-block.ensures.answer, c.read_block-block.ensures.tables) in
-    let K = c.read_back-back.ensures in
+returns c =
+    let F = c.read_front-front.ensures in
+    let B = c.read_block-block.ensures in
     let f = c.read_front-front.result in
-    let b = c.read_block-block.result in
-    let k = c.read_back-back.result in
-    let e = c.read_end-end.result in
-    let s = c.args.s.now in record { answer = ((
-      answer-made s f b k e F.0 B.0 K _ c.read_end-end.ensures c.answer_of.ensures,
-      lists_made s f F.0 _ _ _ _ _ _ _ _ F.1 B.1,
-    )).0; tables = ((
-      answer-made s f b k e F.0 B.0 K _ c.read_end-end.ensures c.answer_of.ensures,
-      lists_made s f F.0 _ _ _ _ _ _ _ _ F.1 B.1,
-    )).1 }
+    let s = c.args.s.now in record {
+      answer = answer-made s f c.read_block-block.result c.read_back-back.result c.read_end-end.result F.value B.answer c.read_back-back.ensures _ c.read_end-end.ensures c.answer_of.ensures;
+      tables = lists_made s f F.value _ _ _ _ _ _ _ _ F.table B.tables;
+    }
