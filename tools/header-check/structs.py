@@ -180,7 +180,7 @@ def mirror_parameters(parameters):
 
 
 code_functions, c_functions, mirror_functions = {}, {}, {}
-for name, parameters, answer in re.findall(r'#\[no_mangle\]\s+pub extern "C" fn (\w+)\((.*?)\) -> (\w+)', code, re.S):
+for name, parameters, answer in re.findall(r'#\[unsafe\(no_mangle\)\]\s+pub extern "C" fn (\w+)\((.*?)\) -> (\w+)', code, re.S):
     code_functions[name] = (rust_type(answer, code_numbers)[0], *(list(c_parameters(parameters)) or ["void"]))
 for answer, name, parameters in re.findall(r"^(\w+) (vvc_\w+)\(([^)]*)\);", header, re.M):
     c_functions[name] = (answer, *(p.strip() for p in re.sub(r"\s+", " ", parameters).split(",")))
@@ -229,7 +229,7 @@ hold("the numbers of refusals", (HEADER, [int(n) for n in re.findall(r"= (\d+)",
 
 # ---- the version
 version = tuple(c_numbers[f"VVC_PPS_VERSION_{part}"] for part in ("MAJOR", "MINOR", "PATCH"))
-stated = re.search(r"versionOf (\d+) (\d+) (\d+)", code)
+stated = re.search(r"version_of (\d+) (\d+) (\d+)", code)
 hold("the version", (HEADER, version), ("its contract", stated and tuple(map(int, stated.groups()))))
 newest = re.search(r"^## [^\d\n]*(\d+)\.(\d+)\.(\d+)", text("CHANGELOG.md"), re.M)
 hold("the version", (HEADER, version), ("CHANGELOG.md", newest and tuple(map(int, newest.groups()))))

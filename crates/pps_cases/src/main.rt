@@ -1,29 +1,66 @@
 // Tells of each file that it is named what pps_info tells of standard input, under the file's name.
 #![tactic(auto)]
 
-use libc::STDOUT_FILENO;
+use std::env::{Env, FillError};
+use std::fs::File;
+use std::io;
 
-fn tell(i: usize) {
-    let mut path = io::buffer();
-    let length = os::arg(i, &mut path);
-    io::write_all(STDOUT_FILENO, &path[..length]);
-    io::write_all(STDOUT_FILENO, b"\n");
-    let fd = os::open_read(&path[..length]);
-    if fd < 0 {
-        os::fail(&path[..length]);
-        return;
+// Says on standard error what keeps a file from being opened, in the system's words.
+fn fail(rt: HostRuntime, path: &[u8], error: io::Error) {
+    let to = rt.stderr();
+    let _ = to.write_all(path);
+    let _ = to.write_all(b": ");
+    if let Ok(text) = error.to_string(rt.alloc()) {
+        let _ = to.print(words_of(text.as_str()));
     }
-    let mut nal = io::large_buffer();
-    let count = io::read_full(fd, &mut nal);
-    pps_report::print_info(&nal[..count]);
-    libc::close(fd);
+    let _ = to.write_all(b"\n");
 }
 
-fn main() {
-    let count = os::arg_count();
-    let mut i = 1;
-    while i < count {
-        tell(i);
-        i += 1;
+// Without the error's number, which std puts behind its words.
+fn words_of(text: &str) -> &str {
+    match text.split_once(" (os error ") {
+        Some((words, _)) => words,
+        None => text,
+    }
+}
+
+// A path that is not UTF-8 can't be opened.
+fn open(rt: HostRuntime, path: &[u8]) -> io::Result<File> {
+    match std::str::from_utf8(path) {
+        Ok(path) => File::open(&rt, path),
+        Err(_) => Err(io::Error::from(io::ErrorKind::InvalidFilename)),
+    }
+}
+
+fn tell_file(rt: HostRuntime, path: &[u8]) {
+    let _ = rt.write_all(path);
+    let _ = rt.write_all(b"\n");
+    match open(rt, path) {
+        Err(error) => fail(rt, path, error),
+        Ok(mut file) => {
+            let mut nal = [0u8; pps_report::LARGEST];
+            let count = pps_report::read_full(&mut file, &mut nal);
+            pps_report::print_info(&rt, &nal[..count]);
+        }
+    }
+}
+
+// Of the file that argument i names; false where there is none. A path that is too long counts as empty.
+fn tell(rt: HostRuntime, i: usize) -> bool {
+    let mut path = [0u8; 4096];
+    let length = match rt.arg(i, &mut path) {
+        Ok(length) => length,
+        Err(FillError::TooLong) => 0,
+        Err(FillError::NotPresent) => return false,
+    };
+    tell_file(rt, &path[..length]);
+    true
+}
+
+fn main(rt: HostRuntime) {
+    for i in 1..usize::MAX {
+        if !tell(rt, i) {
+            return;
+        }
     }
 }

@@ -4,7 +4,7 @@ use crate::scale::{Frame, frame_of};
 use crate::{page, slices, tiles};
 use tile_sizes::in_ctbs;
 
-fn draw_partitioned(report: Report, frame: Frame) {
+fn draw_partitioned(rt: &impl Print, report: Report, frame: Frame) {
     let grid = report.grid;
     let column_widths = grid.column_widths;
     let row_heights = grid.row_heights;
@@ -13,9 +13,19 @@ fn draw_partitioned(report: Report, frame: Frame) {
     let top = plan.top;
     let width = plan.width;
     let height = plan.height;
-    page::open_area();
-    slices::draw_slices(plan.num_slices, &left, &top, &width, &height, false, frame);
+    page::open_area(rt);
+    slices::draw_slices(
+        rt,
+        plan.num_slices,
+        &left,
+        &top,
+        &width,
+        &height,
+        false,
+        frame,
+    );
     tiles::draw_tiles(
+        rt,
         grid.num_tile_rows,
         &row_heights,
         grid.num_tile_columns,
@@ -27,18 +37,27 @@ fn draw_partitioned(report: Report, frame: Frame) {
         &height,
         frame,
     );
-    slices::draw_slices(plan.num_slices, &left, &top, &width, &height, true, frame);
-    page::close_area();
+    slices::draw_slices(
+        rt,
+        plan.num_slices,
+        &left,
+        &top,
+        &width,
+        &height,
+        true,
+        frame,
+    );
+    page::close_area(rt);
 }
 
-pub fn draw(report: Report) {
+pub fn draw(rt: &impl Print, report: Report) {
     if report.refused != 0 {
-        page::refused(report.refused);
+        page::refused(rt, report.refused);
         return;
     }
     let grid = report.grid;
     if grid.num_tile_columns == 0 {
-        page::unpartitioned(report.width, report.height);
+        page::unpartitioned(rt, report.width, report.height);
         return;
     }
     let plan = report.plan;
@@ -52,8 +71,9 @@ pub fn draw(report: Report) {
         grid.num_tile_rows,
         plan.num_slices,
     );
-    page::open(frame.height);
+    page::open(rt, frame.height);
     page::heading(
+        rt,
         report.width,
         report.height,
         grid.num_tile_columns,
@@ -61,6 +81,6 @@ pub fn draw(report: Report) {
         plan.num_slices,
         cover,
     );
-    draw_partitioned(report, frame);
-    page::close();
+    draw_partitioned(rt, report, frame);
+    page::close(rt);
 }

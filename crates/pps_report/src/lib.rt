@@ -6,6 +6,7 @@ ghost use Rattle.std.specs.Prelude.{◌≡◌};
 ghost use Rattle.pps_report.specs.Told.{refusal_told};
 
 mod drawing;
+mod input;
 mod marks;
 mod out;
 mod page;
@@ -15,6 +16,7 @@ mod slices;
 mod text;
 mod tiles;
 
+pub use input::{LARGEST, read_full};
 use report::report_of;
 use tile_sizes::{MAX_SLICES, MAX_TILE_COLUMNS, MAX_TILES};
 
@@ -26,19 +28,19 @@ const ROWS: usize = MAX_TILES as usize;
 const SLICES: usize = MAX_SLICES as usize;
 
 // Prints of a unit: bytes taken, size, tiles and cover, or the number of its refusal.
-pub fn print_info(nal: &[u8]) -> u8
+pub fn print_info(rt: &impl Print, nal: &[u8]) -> u8
     ensures { result ≡ refusal_told nal.now }
 {
     let report = report_of(nal);
-    text::print_report(report);
+    text::print_report(rt, report);
     report.refused
 }
 
 // Prints a drawing of a unit's tiles and its numbered slices.
-pub fn print_svg(nal: &[u8]) -> u8
+pub fn print_svg(rt: &impl Print, nal: &[u8]) -> u8
     ensures { result ≡ refusal_told nal.now }
 {
     let report = report_of(nal);
-    drawing::draw(report);
+    drawing::draw(rt, report);
     report.refused
 }

@@ -12,12 +12,12 @@ pub struct Box {
 }
 
 // An attribute with a number.
-pub fn attribute(name: &[u8], n: u32) {
-    put(b" ");
-    put(name);
-    put(b"='");
-    number(n as u64);
-    put(b"'");
+pub fn attribute(rt: &impl Print, name: &[u8], n: u32) {
+    put(rt, b" ");
+    put(rt, name);
+    put(rt, b"='");
+    number(rt, n as u64);
+    put(rt, b"'");
 }
 
 // A rectangle of CTBs in units.
@@ -43,36 +43,42 @@ pub fn inset(b: Box, by: u32) -> Box {
 }
 
 // A rectangle up to its style, which the caller puts with the end of the element.
-pub fn rect(b: Box) {
-    put(b"<rect");
-    attribute(b"x", b.x);
-    attribute(b"y", b.y);
-    attribute(b"width", b.width);
-    attribute(b"height", b.height);
+pub fn rect(rt: &impl Print, b: Box) {
+    put(rt, b"<rect");
+    attribute(rt, b"x", b.x);
+    attribute(rt, b"y", b.y);
+    attribute(rt, b"width", b.width);
+    attribute(rt, b"height", b.height);
 }
 
 // A number in the middle of a rectangle, as large as fits but not too large.
-pub fn number_in(n: u32, b: Box) {
+pub fn number_in(rt: &impl Print, n: u32, b: Box) {
     let size = least(least(b.width / 3, b.height / 4 * 3), 600);
-    put(b"<text");
-    attribute(b"x", plus(b.x, b.width / 2));
-    attribute(b"y", plus(plus(b.y, b.height / 2), size / 3));
-    attribute(b"font-size", size);
-    attribute(b"stroke-width", size / 6);
-    put(b" text-anchor='middle' stroke='#fff' paint-order='stroke'>");
-    number(n as u64);
-    put(b"</text>\n");
+    put(rt, b"<text");
+    attribute(rt, b"x", plus(b.x, b.width / 2));
+    attribute(rt, b"y", plus(plus(b.y, b.height / 2), size / 3));
+    attribute(rt, b"font-size", size);
+    attribute(rt, b"stroke-width", size / 6);
+    put(
+        rt,
+        b" text-anchor='middle' stroke='#fff' paint-order='stroke'>",
+    );
+    number(rt, n as u64);
+    put(rt, b"</text>\n");
 }
 
 // A small number in the lower right corner.
-pub fn number_in_corner(n: u32, b: Box) {
+pub fn number_in_corner(rt: &impl Print, n: u32, b: Box) {
     let size = least(least(b.width / 5, b.height / 4), 180);
-    put(b"<text");
-    attribute(b"x", minus(plus(b.x, b.width), size / 2));
-    attribute(b"y", minus(plus(b.y, b.height), size / 2));
-    attribute(b"font-size", size);
-    attribute(b"stroke-width", size / 6);
-    put(b" text-anchor='end' fill='#444' stroke='#fff' paint-order='stroke'>");
-    number(n as u64);
-    put(b"</text>\n");
+    put(rt, b"<text");
+    attribute(rt, b"x", minus(plus(b.x, b.width), size / 2));
+    attribute(rt, b"y", minus(plus(b.y, b.height), size / 2));
+    attribute(rt, b"font-size", size);
+    attribute(rt, b"stroke-width", size / 6);
+    put(
+        rt,
+        b" text-anchor='end' fill='#444' stroke='#fff' paint-order='stroke'>",
+    );
+    number(rt, n as u64);
+    put(rt, b"</text>\n");
 }

@@ -1,35 +1,34 @@
-// Standard output.
-use libc::STDOUT_FILENO;
+// Standard output. A write that fails is passed over: what is told goes on with the next one.
 use tile_grid::CoverAnswer;
 
-pub fn put(text: &[u8]) {
-    io::write_all(STDOUT_FILENO, text);
+pub fn put(rt: &impl Print, text: &[u8]) {
+    let _ = rt.write_all(text);
 }
 
-pub fn number(n: u64) {
-    io::print_decimal(STDOUT_FILENO, n);
+pub fn number(rt: &impl Print, n: u64) {
+    let _ = rt.print(n);
 }
 
 // The cover's word, and the tile that it names.
-pub fn cover_word(cover: CoverAnswer) {
+pub fn cover_word(rt: &impl Print, cover: CoverAnswer) {
     match cover {
         CoverAnswer::Refused(n) => {
-            put(b"refused ");
-            number(n as u64);
+            put(rt, b"refused ");
+            number(rt, n as u64);
         }
         CoverAnswer::NoPlan => {
-            put(b"none");
+            put(rt, b"none");
         }
         CoverAnswer::Whole => {
-            put(b"whole");
+            put(rt, b"whole");
         }
         CoverAnswer::Gap(t) => {
-            put(b"gap ");
-            number(t.0 as u64);
+            put(rt, b"gap ");
+            number(rt, t.0 as u64);
         }
         CoverAnswer::Double(t) => {
-            put(b"double ");
-            number(t.0 as u64);
+            put(rt, b"double ");
+            number(rt, t.0 as u64);
         }
     }
 }

@@ -2,7 +2,7 @@
 ghost use Rattle.std.specs.Prelude.{◌≡◌};
 ghost use Rattle.pps_report.specs.Told.{refusal_told};
 
-use crate::{COLUMNS, ROWS, SLICES};
+use crate::{COLUMNS, LARGEST, ROWS, SLICES};
 use pps_answer::{AcceptedPps, PpsAnswer};
 use pps_read::parse_pps;
 use pps_record::lengths::{
@@ -107,7 +107,7 @@ fn accepted_report(
 pub fn report_of(nal: &[u8]) -> Report
     ensures { result.refused ≡ refusal_told nal.now }
 {
-    let mut work = io::large_buffer();
+    let mut work = [0u8; LARGEST];
     let mut subpic_ids = [0u32; SUBPIC_IDS];
     let mut tile_column_widths = [0u32; TILE_COLUMN_WIDTHS];
     let mut tile_row_heights = [0u32; TILE_ROW_HEIGHTS];

@@ -14,14 +14,15 @@ pub enum Held {
 }
 
 // A colour for each slice, neighbours in the order far apart.
-fn colour(i: u32) {
-    put(b" fill='hsl(");
-    number(i as u64 * 137 % 360);
-    put(b",70%,75%)' fill-opacity='.6' stroke='#222'");
+fn colour(rt: &impl Print, i: u32) {
+    put(rt, b" fill='hsl(");
+    number(rt, i as u64 * 137 % 360);
+    put(rt, b",70%,75%)' fill-opacity='.6' stroke='#222'");
 }
 
 // Slice i of so many, or with `numbered` the number that stands on it.
 fn draw_slice(
+    rt: &impl Print,
     i: u32,
     count: u32,
     left: &[u32; SLICES],
@@ -40,16 +41,17 @@ fn draw_slice(
     }
     let b = box_of(left[k], top[k], width[k], height[k], frame);
     if numbered {
-        number_in(i, b);
+        number_in(rt, i, b);
         return;
     }
-    rect(inset(b, frame.border / 2));
-    colour(i);
-    attribute(b"stroke-width", frame.border);
-    put(b"/>\n");
+    rect(rt, inset(b, frame.border / 2));
+    colour(rt, i);
+    attribute(rt, b"stroke-width", frame.border);
+    put(rt, b"/>\n");
 }
 
 pub fn draw_slices(
+    rt: &impl Print,
     count: u32,
     left: &[u32; SLICES],
     top: &[u32; SLICES],
@@ -60,7 +62,7 @@ pub fn draw_slices(
 ) {
     let mut i = 0;
     while i < MAX_SLICES {
-        draw_slice(i, count, left, top, width, height, numbered, frame);
+        draw_slice(rt, i, count, left, top, width, height, numbered, frame);
         i += 1;
     }
 }

@@ -7,32 +7,33 @@ use crate::{COLUMNS, ROWS, SLICES};
 use tile_sizes::{MAX_TILE_COLUMNS, MAX_TILES};
 
 // A mark where a tile lies in no slice or in several.
-fn mark(held: Held, b: Box) {
+fn mark(rt: &impl Print, held: Held, b: Box) {
     match held {
         Held::Never => {
-            rect(b);
-            put(b" fill='url(#gap)'/>\n");
+            rect(rt, b);
+            put(rt, b" fill='url(#gap)'/>\n");
         }
         Held::Once => {}
         Held::Often => {
-            rect(b);
-            put(b" fill='url(#double)'/>\n");
+            rect(rt, b);
+            put(rt, b" fill='url(#double)'/>\n");
         }
     }
 }
 
-fn border(t: u32, b: Box, frame: Frame) {
-    rect(b);
-    put(b" fill='none' stroke='#000'");
-    attribute(b"stroke-width", frame.border / 3);
-    put(b" stroke-dasharray='60 40'/>\n");
-    number_in_corner(t, b);
+fn border(rt: &impl Print, t: u32, b: Box, frame: Frame) {
+    rect(rt, b);
+    put(rt, b" fill='none' stroke='#000'");
+    attribute(rt, b"stroke-width", frame.border / 3);
+    put(rt, b" stroke-dasharray='60 40'/>\n");
+    number_in_corner(rt, t, b);
 }
 
 // The tile in column i of the row that begins with tile `first`, from x on; where the next one begins. A slice holds a
 // tile whole or is cut from it with others that hold the rest, so that as many slices hold the first block as any
 // other.
 fn draw_tile(
+    rt: &impl Print,
     i: u32,
     first: u32,
     x: u32,
@@ -57,14 +58,15 @@ fn draw_tile(
     let column_width = column_widths[k];
     let b = box_of(x, y, column_width, row_height, frame);
     if count > 0 {
-        mark(held_at(x, y, count, left, top, width, height), b);
+        mark(rt, held_at(x, y, count, left, top, width, height), b);
     }
-    border(plus(first, i), b, frame);
+    border(rt, plus(first, i), b, frame);
     plus(x, column_width)
 }
 
 // Row i of tiles, from y on; where the next one begins.
 fn draw_row(
+    rt: &impl Print,
     i: u32,
     y: u32,
     rows: u32,
@@ -87,6 +89,7 @@ fn draw_row(
     }
     let row_height = row_heights[k];
     draw_columns(
+        rt,
         times(i, columns),
         y,
         row_height,
@@ -103,6 +106,7 @@ fn draw_row(
 }
 
 fn draw_columns(
+    rt: &impl Print,
     first: u32,
     y: u32,
     row_height: u32,
@@ -119,6 +123,7 @@ fn draw_columns(
     let mut i = 0;
     while i < MAX_TILE_COLUMNS {
         x = draw_tile(
+            rt,
             i,
             first,
             x,
@@ -138,6 +143,7 @@ fn draw_columns(
 }
 
 pub fn draw_tiles(
+    rt: &impl Print,
     rows: u32,
     row_heights: &[u32; ROWS],
     columns: u32,
@@ -153,6 +159,7 @@ pub fn draw_tiles(
     let mut i = 0;
     while i < MAX_TILES {
         y = draw_row(
+            rt,
             i,
             y,
             rows,

@@ -2,8 +2,9 @@
 // that no more than 65,536 need be read.
 #![tactic(auto)]
 
-fn main() {
-    let mut nal = io::large_buffer();
-    let count = io::read_full(libc::STDIN_FILENO, &mut nal);
-    pps_report::print_svg(&nal[..count]);
+fn main(rt: HostRuntime) {
+    let mut nal = [0u8; pps_report::LARGEST];
+    let mut input = rt.stdin();
+    let count = pps_report::read_full(&mut input, &mut nal);
+    pps_report::print_svg(&rt, &nal[..count]);
 }
