@@ -9,12 +9,13 @@ use Rattle.std.proofs.Math.ListN.{length}
 use Rattle.std.proofs.lemmas.Bool.{eqb-false, lt-leb}
 use Rattle.codes.specs.Bits.{to_bits}
 use Rattle.codes.specs.Symbols.{Symbol, refusal_in, check, refusal-putting, refusal-check}
-use Rattle.partition.specs.Axis.{span-one, span_le}
+use Rattle.partition.proofs.Axis.{span-one, span_le}
 use Rattle.partition.specs.Checks.{Check, refuse, refused_with, first_bad}
 use Rattle.partition.specs.Entry.{first_position, writing, tile_y, tile_row_height, some_at_least}
 use Rattle.partition.specs.Grid.{Grid, columns, rows, tiles, max_tile_columns, max_tiles, max_slices_minus1}
 use Rattle.partition.specs.Partition.{in_ctbs, tile_grid, explicit_checks, axis_checks, grid_checks, grid_of, grid_checks_of, slices_coded, delta_flag_checks, partition_checks, Layout, declined, unsliced, sliced, from_walk, unless, layout}
-use Rattle.partition.specs.Sizes.{sum, explicit_sizes, axis_sizes, sum-sizes}
+use Rattle.partition.specs.Sizes.{sum, explicit_sizes, axis_sizes}
+use Rattle.partition.proofs.Sizes.{sum-sizes}
 use Rattle.partition.specs.Walk as walks
 use Rattle.partition.specs.Walk.{Walked, refused, placed}
 use Rattle.pps_syntax.specs.EntryRefusal.{Codable}

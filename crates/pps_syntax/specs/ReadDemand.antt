@@ -4,7 +4,8 @@ use Rattle.std.specs.Prelude.{ℕ, ◌+◌, ◌≤◌, ◌≡◌, List, [], ◌�
 use Rattle.std.proofs.Common.{◌∙◌}
 use Rattle.partition.specs.Accepted.{Accepted, Planned}
 use Rattle.partition.specs.Cover.{Cover, EachBlock, RightCover, Exactly}
-use Rattle.partition.specs.Demand.{OneTile, picture-size, exactly_one-tile, plan_when_coded, slice-count, slices-inside, no-block_in_two, cover_exactly, cover-right}
+use Rattle.partition.specs.Demand.{OneTile}
+use Rattle.partition.proofs.Demand.{picture-size, exactly_one-tile, plan_when_coded, slice-count, slices-inside, no-block_in_two, cover_exactly, cover-right}
 use Rattle.partition.specs.Entry.{asking}
 use Rattle.partition.specs.Grid as grid
 use Rattle.partition.specs.Grid.{Grid}

@@ -12,7 +12,7 @@ use Rattle.codes.specs.Symbols.{refusal_in}
 use Rattle.partition.specs.Checks.{AllPass}
 use Rattle.partition.specs.Entry.{Position, split_coded, split_heights, num_slices_in_tile, last_slice_of, next_position, size_checks, inherited_checks, split_checks, move_checks, entry_checks}
 use Rattle.partition.specs.Grid.{Grid}
-use Rattle.partition.specs.Sizes.{length-sizes}
+use Rattle.partition.proofs.Sizes.{length-sizes}
 use Rattle.partition.specs.Walk.{row_height_of, onward}
 use Rattle.pps_syntax.specs.EntryAccepted.{entry-accepted}
 use Rattle.pps_syntax.specs.SliceSyntax.{RectSlice, entry_of, slice_move, slice_split, slice_height, rect_slice, rect_slices}

@@ -9,7 +9,7 @@ use Rattle.partition.specs.Checks.{Outcome, fine, first_bad, passed}
 use Rattle.partition.specs.Entry.{Entry, Position, asking, split_coded, split_heights, num_slices_in_tile, last_slice_of, next_position}
 use Rattle.partition.specs.Grid.{Grid}
 use Rattle.partition.specs.Groups.{Group}
-use Rattle.partition.specs.Sizes.{some_size}
+use Rattle.partition.proofs.Sizes.{some_size}
 use Rattle.partition.specs.Walk as walks
 use Rattle.partition.specs.Walk.{row_height_of, entry_group, last_group, Walked, placed, after, checks_at, onward}
 use Rattle.pps_syntax.specs.EntryAccepted.{entry-accepted}
