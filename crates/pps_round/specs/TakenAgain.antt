@@ -21,7 +21,7 @@ use Rattle.pps_syntax.specs.ReadWhole.{fields_read}
 use Rattle.pps_syntax.proofs.ReadWhole.{read_whole}
 use Rattle.syntax.specs.Element.{Parsed, parsed}
 use Rattle.syntax.specs.Elements.{is_set}
-use Rattle.syntax.specs.Round.{written_then_read}
+use Rattle.syntax.proofs.Round.{written_then_read}
 use Rattle.syntax.specs.Syntax.{parse}
 
 -- ---- zeros

@@ -26,7 +26,8 @@ use Rattle.pps_syntax.specs.SameTests.{not_within, twice}
 use Rattle.pps_syntax.specs.SliceSyntax.{RectSlice, entry_of, rect_slices}
 use Rattle.pps_syntax.specs.WalkRefusal.{walk_refusal, Deltas32}
 use Rattle.pps_syntax.proofs.WalkRefusal.{slices-refusal}
-use Rattle.syntax.specs.Elements.{u, flag, ue, flag_if, limited, absent, sameℕ, or_else, is_set, checked-refusal}
+use Rattle.syntax.specs.Elements.{u, flag, ue, limited, sameℕ, or_else, is_set, checked-refusal}
+use Rattle.syntax.proofs.Elements.{flag_if, absent}
 use Rattle.syntax.specs.Lists.{many, none, not-true}
 use Rattle.syntax.specs.Syntax.{◌>>=◌, symbols_for, refusal_for}
 use Rattle.pps_syntax.specs.BlockRefusal.{declined_with, Numbers32, ctbs_most}

@@ -17,7 +17,8 @@ use Rattle.partition.specs.Sizes.{sum, explicit_sizes}
 use Rattle.partition.specs.Walk.{row_height_of, checks_at}
 use Rattle.pps_syntax.specs.SameTests.{passes, not-under, not_within, not_where, twice, not-inside, same_flag, ◌⨟◌}
 use Rattle.pps_syntax.specs.SliceSyntax.{RectSlice, entry_of, slice_move, slice_split, slice_height, rect_slice}
-use Rattle.syntax.specs.Elements.{ue, se, limited, absent, sameℕ, sameℤ, or_else, is_set, check-held, se_canon}
+use Rattle.syntax.specs.Elements.{ue, se, limited, sameℕ, sameℤ, or_else, is_set, check-held, se_canon}
+use Rattle.syntax.proofs.Elements.{absent}
 use Rattle.syntax.specs.Facts.{Facts, facts}
 use Rattle.syntax.specs.Lists.{many, none}
 use Rattle.syntax.specs.Syntax.{◌>>=◌, refusal_for, canonical_for}

@@ -18,7 +18,8 @@ use Rattle.partition.specs.Walk.{row_height_of, checks_at}
 use Rattle.pps_syntax.specs.RefusalSteps.{first_number, ends, step, quiet, check-refuses, ue-quiet, below-refuses, many-refuses, or-refuses, or_quiet, absent-quiet, none-quiet}
 use Rattle.pps_syntax.specs.SameTests.{not-under, not_within, not_where, twice, not-inside, same_flag}
 use Rattle.pps_syntax.specs.SliceSyntax.{RectSlice, entry_of, slice_move, slice_split, slice_height, rect_slice}
-use Rattle.syntax.specs.Elements.{ue, se, absent, sameℕ, sameℤ, is_set, checked-refusal}
+use Rattle.syntax.specs.Elements.{ue, se, sameℕ, sameℤ, is_set, checked-refusal}
+use Rattle.syntax.proofs.Elements.{absent}
 use Rattle.syntax.specs.Syntax.{◌>>=◌, symbols_for, refusal_for}
 use Rattle.pps_syntax.specs.EntryRefusal.{Codable}
 

@@ -17,7 +17,8 @@ use Rattle.pps_syntax.specs.SameTests.{passes, not_within, twice, ◌⨟◌}
 use Rattle.pps_syntax.specs.SliceSyntax.{RectSlice, entry_of}
 use Rattle.pps_syntax.proofs.WalkAccepted.{slices-accepted}
 use Rattle.syntax.specs.Element.{Element}
-use Rattle.syntax.specs.Elements.{u, flag, ue, flag_if, limited, absent, sameℕ, or_else, is_set, check-held}
+use Rattle.syntax.specs.Elements.{u, flag, ue, limited, sameℕ, or_else, is_set, check-held}
+use Rattle.syntax.proofs.Elements.{flag_if, absent}
 use Rattle.syntax.specs.Facts.{Facts, facts}
 use Rattle.syntax.specs.Lists.{none, not-true}
 use Rattle.syntax.specs.Round.{and_parts, refusal_parts}

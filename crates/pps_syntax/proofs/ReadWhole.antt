@@ -11,7 +11,7 @@ use Rattle.pps_syntax.specs.Rbsp.{ReadSet, accepted, refused, extension_for, beh
 use Rattle.pps_syntax.specs.TrailingTaken.{Trailing, trailing-accepted, extension-last}
 use Rattle.syntax.specs.Element.{Parsed}
 use Rattle.syntax.specs.Elements.{is_set}
-use Rattle.syntax.specs.Round.{read_then_written}
+use Rattle.syntax.proofs.Round.{read_then_written}
 use Rattle.pps_syntax.specs.ReadWhole.{fields_read, ReadWhole}
 
 -- ---- the answer taken apart

@@ -10,7 +10,8 @@ use Rattle.pps_syntax.specs.SliceSyntax.{rect_slices}
 use Rattle.pps_syntax.specs.SliceTables.{all_split_heights}
 use Rattle.pps_syntax.specs.SubpicIds.{SubpicIds, subpic_ids, max_subpics, max_subpics_minus1}
 use Rattle.syntax.specs.Element.{Element}
-use Rattle.syntax.specs.Elements.{u, ue, limited, absent, sameℕ, or_else, is_set, check-held}
+use Rattle.syntax.specs.Elements.{u, ue, limited, sameℕ, or_else, is_set, check-held}
+use Rattle.syntax.proofs.Elements.{absent}
 use Rattle.syntax.specs.Facts.{Facts, facts}
 use Rattle.syntax.specs.Lists.{many, none, many-length, not-true}
 use Rattle.syntax.specs.Round.{refusal_parts}
