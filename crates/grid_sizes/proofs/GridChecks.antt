@@ -8,7 +8,8 @@ use native.Mathlib.Omega.{arith}
 use lib.Dec.{ltb, leb, lit<}
 use lib.ListN.{length}
 use borrow.Author.Tests.{lt-ltb, le-ltb, ltb-false, leb-true, leb-false, eq-eqb, ne_eqb, eqb-false}
-use Rattle.partition.specs.Sizes.{sum, explicit_sizes, axis_sizes, some_size}
+use Rattle.partition.specs.Sizes.{sum, explicit_sizes, axis_sizes}
+use Rattle.partition.proofs.Sizes.{some_size}
 use Rattle.partition.specs.Grid.{max_tile_columns, max_tiles}
 use Rattle.partition.specs.Checks.{Check, refuse, fine, refused_with, first_bad, number_of, AllPass, passes, first-left, first-right, fails, goes_on, ends, Numbered, zero-fine, number-refused}
 use Rattle.partition.specs.Entry.{some_at_least}

@@ -8,7 +8,6 @@ pub mod Checks
 pub mod Entry
 pub mod Walk
 pub mod Placed
-pub mod Apart
 pub mod Partition
 pub mod Cover
 pub mod Lowest

@@ -15,11 +15,12 @@ use Rattle.pps_record.specs.declared.VvcQpOffsets.{VvcQpOffsets}
 use Rattle.pps_round.specs.SetBack.{long_of, set_back}
 use Rattle.pps_round.specs.UnitRead.{UnitRead, unit-read}
 use Rattle.pps_syntax.specs.FromRecord.{Lent, tables_long, partition_from, set_from}
-use Rattle.pps_syntax.specs.ListsFit.{read_lists_fit}
+use Rattle.pps_syntax.proofs.ListsFit.{read_lists_fit}
 use Rattle.pps_syntax.specs.Pps.{Pps, partitioned, pic_width, pic_height}
 use Rattle.pps_syntax.specs.Rbsp.{ReadSet, accepted, read_rbsp, rbsp_of}
-use Rattle.pps_syntax.specs.ReadAccepted.{picture_of, read-partition-accepted, read-unpartitioned}
-use Rattle.pps_syntax.specs.ReadWhole.{read_whole}
+use Rattle.pps_syntax.specs.ReadAccepted.{picture_of}
+use Rattle.pps_syntax.proofs.ReadAccepted.{read-partition-accepted, read-unpartitioned}
+use Rattle.pps_syntax.proofs.ReadWhole.{read_whole}
 use Rattle.pps_syntax.specs.Record.{record_of}
 use Rattle.question_tests.specs.Questions.{record_checks, picture_layout, layout_asked}
 use Rattle.tile_grid.specs.AskedDemand.{declined_layout}

@@ -17,7 +17,8 @@ use Rattle.pps_syntax.specs.Pps.{Pps, front, pps, partitioned, pic_width, pic_he
 use Rattle.pps_syntax.specs.Record.{partition_record, record_of}
 use Rattle.pps_syntax.specs.SameTests.{◌⨟◌}
 use Rattle.question_tests.specs.Questions.{flag_over1, record_checks}
-use Rattle.syntax.specs.Elements.{flag, absent, sameℕ, is_set, one_if, or_else}
+use Rattle.syntax.specs.Elements.{flag, sameℕ, is_set, one_if, or_else}
+use Rattle.syntax.proofs.Elements.{absent}
 use Rattle.syntax.specs.Facts.{Facts, facts}
 use Rattle.syntax.specs.Lists.{many, none, not-true}
 use Rattle.syntax.specs.Round.{and_parts, refusal_parts}

@@ -4,10 +4,12 @@ use Rattle.std.specs.Prelude.{ℕ, ◌+◌, ◌≤◌, ◌≡◌, refl, List, Bo
 use Rattle.std.proofs.Common.{sym, ◌∙◌, arith}
 use Rattle.std.specs.Bool.{beq}
 use borrow.Author.Tests.{ne_eqb}
-use Rattle.partition.specs.Accepted.{Accepted, without-slices, with_slices, Planned, planned-walk}
+use Rattle.partition.specs.Accepted.{Accepted, without-slices, with_slices, Planned}
+use Rattle.partition.proofs.Accepted.{planned-walk}
 use Rattle.partition.specs.Checks.{AllPass, passes}
 use Rattle.partition.specs.Cover.{EachBlock, RightCover, Exactly}
-use Rattle.partition.specs.Demand.{OneTile, picture-size, plan_when_coded}
+use Rattle.partition.specs.Demand.{OneTile}
+use Rattle.partition.proofs.Demand.{picture-size, plan_when_coded}
 use Rattle.partition.specs.Entry.{asking}
 use Rattle.partition.specs.Grid.{Grid, columns, tiles, pic_width, pic_height, max_tile_columns, max_tiles}
 use Rattle.partition.specs.Groups.{Group, plan}

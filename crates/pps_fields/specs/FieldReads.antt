@@ -12,8 +12,10 @@ use Rattle.bit_reader.specs.Reading.{refusal, u_read, byte_read, ue_read, se_rea
 use Rattle.bit_reader.specs.Laws.{demanded-true, bits-coded, ue-small}
 use Rattle.pps_syntax.specs.Offsets.{in_range, offset, offset_or}
 use Rattle.syntax.specs.Element.{parsed}
-use Rattle.syntax.specs.Elements.{bits_parsed, signed_parsed, flag, ue, se, limited, absent, sameℕ, sameℤ, or_else, or-true, or-false}
-use Rattle.syntax.specs.ReadSteps.{byte_parsed, byte_reads, byte_or_lem, bits-or, signed-or}
+use Rattle.syntax.specs.Elements.{bits_parsed, signed_parsed, flag, ue, se, limited, sameℕ, sameℤ, or_else, or-true, or-false}
+use Rattle.syntax.proofs.Elements.{absent}
+use Rattle.syntax.specs.ReadSteps.{byte_parsed, byte_reads}
+use Rattle.syntax.proofs.ReadSteps.{byte_or_lem, bits-or, signed-or}
 
 -- a number that was read, with a test of it (the ranges of H.266 7.4.3.5): refused with n where it fails
 unfoldable pub tested : (ℕ → Bool) → ℕ → BitsRead → BitsRead

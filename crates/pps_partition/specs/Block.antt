@@ -13,7 +13,8 @@ use Rattle.pps_syntax.specs.PartitionSyntax.{PartitionBlock, partition, ctu_size
 use Rattle.pps_syntax.specs.SliceFlags.{SliceFlags, codes}
 use Rattle.pps_syntax.specs.SliceSyntax.{RectSlice, rect_slices}
 use Rattle.syntax.specs.Element.{parsed, Element}
-use Rattle.syntax.specs.Elements.{ue, flag_if, or_else, is_set}
+use Rattle.syntax.specs.Elements.{ue, or_else, is_set}
+use Rattle.syntax.proofs.Elements.{flag_if}
 use Rattle.syntax.specs.Lists.{none}
 use Rattle.syntax.specs.ReadSteps.{reads, reads-done, reads-test, reads_both, reads_past}
 use Rattle.syntax.specs.Syntax.{parse, ◌for◌}

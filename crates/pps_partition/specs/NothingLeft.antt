@@ -13,7 +13,8 @@ use Rattle.partition.specs.Walk.{onward}
 use Rattle.pps_syntax.specs.PartitionSyntax.{partition, several}
 use Rattle.pps_syntax.specs.SliceSyntax.{RectSlice, entry_of, rect_slice, rect_slices}
 use Rattle.syntax.specs.Element.{Parsed}
-use Rattle.syntax.specs.Elements.{flag, absent, sameℕ, or_else, is_set}
+use Rattle.syntax.specs.Elements.{flag, sameℕ, or_else, is_set}
+use Rattle.syntax.proofs.Elements.{absent}
 use Rattle.syntax.specs.Lists.{none}
 use Rattle.syntax.specs.Syntax.{parse}
 use Rattle.pps_slices.specs.Loop.{refused_from, refused_heights, turns, turns-end, turns_more, turns_stop, all-turns}

@@ -8,7 +8,8 @@ use Rattle.bit_reader.specs.declared.Cursor.{Cursor}
 use Rattle.pps_syntax.specs.PartitionSyntax.{coded, rect_flag, slices_minus1}
 use Rattle.pps_syntax.specs.SliceFlags.{SliceFlags, codes}
 use Rattle.syntax.specs.Element.{Parsed, parsed}
-use Rattle.syntax.specs.Elements.{flag_if, is_set}
+use Rattle.syntax.specs.Elements.{is_set}
+use Rattle.syntax.proofs.Elements.{flag_if}
 use Rattle.syntax.specs.ReadSteps.{reads, reads-done}
 use Rattle.syntax.specs.Syntax.{Syntax, done, ◌for◌, ◌>>=◌, parse}
 

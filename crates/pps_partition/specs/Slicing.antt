@@ -16,7 +16,8 @@ use Rattle.pps_syntax.specs.SliceFlags.{SliceFlags, codes}
 use Rattle.pps_syntax.specs.SliceSyntax.{RectSlice, rect_slices}
 use Rattle.pps_syntax.specs.SliceTables.{SliceTables, all_split_heights}
 use Rattle.syntax.specs.Element.{Parsed, parsed, Element}
-use Rattle.syntax.specs.Elements.{flag, absent, sameℕ, or_else, is_set}
+use Rattle.syntax.specs.Elements.{flag, sameℕ, or_else, is_set}
+use Rattle.syntax.proofs.Elements.{absent}
 use Rattle.syntax.specs.Lists.{none}
 use Rattle.syntax.specs.Syntax.{parse}
 use Rattle.pps_slices.specs.Grids.{GridHas}

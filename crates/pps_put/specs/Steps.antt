@@ -6,8 +6,9 @@ use Rattle.std.specs.Int.{w32}
 use Rattle.codes.specs.Coded.{flag_bit, ue_symbols, se_symbols, only_if}
 use Rattle.codes.specs.Symbols.{Symbol, putting, check}
 use Rattle.bit_writer.specs.Writing.{Writing, play, play-none}
-use Rattle.syntax.specs.Elements.{flag, ue, se, flag_if, ue_if, sameℕ, sameℤ}
-use Rattle.syntax.specs.WriteSteps.{writes-or}
+use Rattle.syntax.specs.Elements.{flag, ue, se, sameℕ, sameℤ}
+use Rattle.syntax.proofs.Elements.{flag_if, ue_if}
+use Rattle.syntax.proofs.WriteSteps.{writes-or}
 use Rattle.pps_syntax.specs.Head.{se_if}
 use Rattle.pps_syntax.specs.Offsets.{offset, offset_or}
 

@@ -7,10 +7,11 @@ use Rattle.pps_record.specs.declared.VvcQpOffsets.{VvcQpOffsets}
 use Rattle.codes.specs.Coded.{ue_symbols, only_if}
 use Rattle.codes.specs.Symbols.{check}
 use Rattle.bit_writer.specs.Writing.{Writing, play, play-none, play_then}
-use Rattle.syntax.specs.Elements.{ue, ue_if, sameℕ, or_else}
+use Rattle.syntax.specs.Elements.{ue, sameℕ, or_else}
+use Rattle.syntax.proofs.Elements.{ue_if}
 use Rattle.syntax.specs.Lists.{many, none}
 use Rattle.syntax.specs.Syntax.{symbols_for}
-use Rattle.syntax.specs.WriteSteps.{writes-or}
+use Rattle.syntax.proofs.WriteSteps.{writes-or}
 use Rattle.pps_syntax.specs.Chroma.{Triple, triple, triple_element, list_length}
 use Rattle.pps_syntax.specs.FromRecord.{triple_of, triples_from}
 use Rattle.pps_put.specs.Each.{each, many-each, take-cut, each_turn, each-end}

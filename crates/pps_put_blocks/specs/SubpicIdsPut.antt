@@ -5,9 +5,10 @@ use Rattle.codes.specs.Coded.{ue_symbols, only_if}
 use Rattle.codes.specs.Symbols.{check}
 use Rattle.bit_writer.specs.Writing.{Writing, play, play-none, play_then}
 use Rattle.syntax.specs.Element.{Element}
-use Rattle.syntax.specs.Elements.{u, ue, limited, absent, sameℕ, or_else}
+use Rattle.syntax.specs.Elements.{u, ue, limited, sameℕ, or_else}
+use Rattle.syntax.proofs.Elements.{absent}
 use Rattle.syntax.specs.Lists.{many, none}
-use Rattle.syntax.specs.WriteSteps.{writes-or}
+use Rattle.syntax.proofs.WriteSteps.{writes-or}
 use Rattle.pps_syntax.specs.SubpicIds.{max_subpics_minus1}
 use Rattle.pps_put.specs.Each.{each, many-each, take-cut}
 

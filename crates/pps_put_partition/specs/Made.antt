@@ -9,7 +9,8 @@ use Rattle.codes.specs.Symbols.{putting, check, checked, check-none}
 use Rattle.bit_writer.specs.Writing.{Writing, play, play-none}
 use Rattle.partition.specs.Grid.{max_slices_minus1}
 use Rattle.partition.specs.Partition.{in_ctbs}
-use Rattle.syntax.specs.Elements.{flag, ue, flag_if, limited, sameℕ, or_else}
+use Rattle.syntax.specs.Elements.{flag, ue, limited, sameℕ, or_else}
+use Rattle.syntax.proofs.Elements.{flag_if}
 use Rattle.syntax.specs.Lists.{many}
 use Rattle.syntax.specs.Round.{and_parts}
 use Rattle.pps_syntax.specs.PartitionSyntax.{some, ctu_size, explicit, rect_flag, slices_minus1}

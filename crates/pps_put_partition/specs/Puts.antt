@@ -8,7 +8,8 @@ use Rattle.partition.specs.Entry.{first_position}
 use Rattle.partition.specs.Grid.{Grid, max_tile_columns, max_tiles}
 use Rattle.partition.specs.Partition.{in_ctbs, tile_grid}
 use Rattle.partition.specs.Sizes.{sum, explicit_sizes, axis_sizes}
-use Rattle.syntax.specs.Elements.{ue, flag_if, or_else, is_set}
+use Rattle.syntax.specs.Elements.{ue, or_else, is_set}
+use Rattle.syntax.proofs.Elements.{flag_if}
 use Rattle.syntax.specs.Lists.{none}
 use Rattle.syntax.specs.Syntax.{symbols_for, ◌for◌}
 use Rattle.pps_syntax.specs.PartitionSyntax.{PartitionBlock, partition, some, coded, ctu_size, explicit, rect_flag, slices_minus1, several}

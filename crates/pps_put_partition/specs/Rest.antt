@@ -14,7 +14,8 @@ use Rattle.grid_sizes.specs.declared.SizesAnswer.{SizesAnswer}
 use Rattle.grid_sizes.specs.Answers.{grid_sizes, grid_of_sizes}
 use Rattle.grid_sizes.specs.Laws.{grid-sizes}
 use Rattle.pps_record.specs.declared.VvcPpsPartition.{VvcPpsPartition}
-use Rattle.syntax.specs.Elements.{flag_if, or_else, is_set}
+use Rattle.syntax.specs.Elements.{or_else, is_set}
+use Rattle.syntax.proofs.Elements.{flag_if}
 use Rattle.syntax.specs.Lists.{not-true}
 use Rattle.syntax.specs.Syntax.{symbols_for}
 use Rattle.pps_syntax.specs.FromRecord.{lent, block_from}

@@ -12,7 +12,8 @@ use Rattle.partition.specs.Entry.{Position, tile_x, tile_y, width_coded, height_
 use Rattle.partition.specs.Grid.{Grid, columns, rows, tiles}
 use Rattle.partition.specs.Sizes.{sum, explicit_sizes}
 use Rattle.partition.specs.Walk.{row_height_of}
-use Rattle.syntax.specs.Elements.{ue, se, ue_if, limited, absent, presence, sameℕ, sameℤ, or_else, is_set}
+use Rattle.syntax.specs.Elements.{ue, se, limited, sameℕ, sameℤ, or_else, is_set}
+use Rattle.syntax.proofs.Elements.{ue_if, absent, presence}
 use Rattle.syntax.specs.Lists.{many, none}
 use Rattle.syntax.specs.Syntax.{symbols_for, ◌for◌}
 use Rattle.pps_syntax.specs.SliceSyntax.{RectSlice, rect_slice, slice_height, slice_split, slice_move}

@@ -8,7 +8,8 @@ use Rattle.codes.specs.Coded.{ue_symbols, only_if}
 use Rattle.codes.specs.Symbols.{Symbol, check}
 use Rattle.bit_writer.specs.Writing.{Writing, play}
 use Rattle.partition.specs.Entry.{tile_x, tile_y, width_coded, height_coded, num_slices_in_tile, split_heights}
-use Rattle.partition.specs.Sizes.{sum, explicit_sizes, some_size}
+use Rattle.partition.specs.Sizes.{sum, explicit_sizes}
+use Rattle.partition.proofs.Sizes.{some_size}
 use Rattle.tile_sizes.specs.declared.SlicesInTile.{SlicesInTile}
 use Rattle.tile_sizes.specs.Answers.{slices_in_tile}
 use Rattle.tile_sizes.specs.Laws.{slices-number, slices-count}

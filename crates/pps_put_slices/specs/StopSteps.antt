@@ -6,7 +6,8 @@ use Rattle.codes.specs.Coded.{only_if}
 use Rattle.codes.specs.Symbols.{Symbol, check, check-none}
 use Rattle.bit_writer.specs.Writing.{Writing, play}
 use Rattle.syntax.specs.Element.{Element}
-use Rattle.syntax.specs.Elements.{Same, absent, or_else}
+use Rattle.syntax.specs.Elements.{Same, or_else}
+use Rattle.syntax.proofs.Elements.{absent}
 use Rattle.syntax.specs.Syntax.{Syntax, done, on_writing, on_reading, on_both, Placed, ◌>>=◌, symbols_for}
 use Rattle.pps_put_slices.specs.Stop.{play_on, on_none, on-append, on-check}
 

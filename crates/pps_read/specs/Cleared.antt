@@ -6,11 +6,12 @@ use Rattle.std.proofs.Math.Bool.{cond}
 use Rattle.tables.specs.Tables.{blank-length, sets_over}
 use Rattle.partition.specs.Grid.{max_tile_columns, max_tiles}
 use Rattle.pps_syntax.specs.FromRecord.{Lent, lengths_fit, tables_long}
-use Rattle.pps_syntax.specs.ListsFit.{ListsFit, read_lists_fit}
+use Rattle.pps_syntax.specs.ListsFit.{ListsFit}
+use Rattle.pps_syntax.proofs.ListsFit.{read_lists_fit}
 use Rattle.pps_syntax.specs.PartitionSyntax.{PartitionBlock}
 use Rattle.pps_syntax.specs.Pps.{Pps, partitioned}
 use Rattle.pps_syntax.specs.Rbsp.{ReadSet, ReadAnswer, accepted, refused, read_rbsp}
-use Rattle.pps_syntax.specs.ReadAccepted.{read-partition-accepted, read-unpartitioned}
+use Rattle.pps_syntax.proofs.ReadAccepted.{read-partition-accepted, read-unpartitioned}
 use Rattle.pps_syntax.specs.SubpicIds.{max_subpics}
 use Rattle.syntax.specs.Round.{and_parts}
 use Rattle.pps_answer.specs.declared.PpsRead.{PpsRead}

@@ -16,8 +16,8 @@ use Rattle.pps_parts.specs.Parts.{front_of, back_of}
 use Rattle.pps_syntax.specs.PartitionSyntax.{PartitionBlock}
 use Rattle.pps_syntax.specs.Pps.{Front, Back, Pps, front, back, pps, partitioned, pic_width, pic_height}
 use Rattle.pps_syntax.specs.Rbsp.{ReadSet, accepted, refused, extension_for, behind_extension, answered, read_rbsp}
-use Rattle.pps_syntax.specs.ReadAccepted.{read-partition-accepted, read-unpartitioned}
-use Rattle.pps_syntax.specs.ReadWhole.{read_whole}
+use Rattle.pps_syntax.proofs.ReadAccepted.{read-partition-accepted, read-unpartitioned}
+use Rattle.pps_syntax.proofs.ReadWhole.{read_whole}
 use Rattle.pps_syntax.specs.Record.{partition_record, record_of}
 use Rattle.pps_syntax.specs.SliceTables.{SliceTables}
 use Rattle.syntax.specs.Element.{Parsed, parsed}

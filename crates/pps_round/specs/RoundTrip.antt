@@ -24,9 +24,9 @@ use Rattle.pps_round.specs.SetBack.{long_of, set_back}
 use Rattle.pps_round.specs.TakenAgain.{taken_again}
 use Rattle.pps_round.specs.UnitRead.{UnitRead, unit-read}
 use Rattle.pps_syntax.specs.FromRecord.{Lent, set_from, tables_long}
-use Rattle.pps_syntax.specs.ListsFit.{read_lists_fit}
+use Rattle.pps_syntax.proofs.ListsFit.{read_lists_fit}
 use Rattle.pps_syntax.specs.Rbsp.{ReadSet, accepted, read_rbsp, before_fields, rbsp_of}
-use Rattle.pps_syntax.specs.ReadWhole.{read_whole}
+use Rattle.pps_syntax.proofs.ReadWhole.{read_whole}
 use Rattle.pps_syntax.specs.WriteAnswers.{lent_right, write_refusal, write_bytes, WriteOutcome, wrote, write_set, write_pps, write_pps_nal}
 use Rattle.pps_syntax.specs.WrittenBack as back
 use Rattle.tables.specs.Tables.{over}

@@ -18,7 +18,8 @@ use Rattle.pps_syntax.specs.SliceSyntax.{RectSlice, entry_of, slice_move, slice_
 use Rattle.pps_syntax.specs.SliceTables.{SliceTables, row_of, row_at, delta-back, all_split_heights, put_slices, split_count, slice_at, slices_from, split_total}
 use Rattle.pps_syntax.specs.WalkAccepted.{turns_left}
 use Rattle.syntax.specs.Element.{Element}
-use Rattle.syntax.specs.Elements.{se, se_canon, absent, sameℤ, or_else, one_if, is_set}
+use Rattle.syntax.specs.Elements.{se, se_canon, sameℤ, or_else, one_if, is_set}
+use Rattle.syntax.proofs.Elements.{absent}
 use Rattle.syntax.specs.Facts.{Facts, facts}
 use Rattle.syntax.specs.Lists.{many, none, walk, not-true}
 use Rattle.syntax.specs.Round.{and_parts, refusal_parts}

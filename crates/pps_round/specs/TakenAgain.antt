@@ -17,10 +17,11 @@ use Rattle.bit_reader.specs.Reading.{cursor_at, trailing_read}
 use Rattle.pps_round.specs.LentBack.{bit-front, bits-front}
 use Rattle.pps_syntax.specs.Pps.{Pps, pps, pps-whole}
 use Rattle.pps_syntax.specs.Rbsp.{ReadSet, accepted, extension_for, answered, read_rbsp}
-use Rattle.pps_syntax.specs.ReadWhole.{fields_read, read_whole}
+use Rattle.pps_syntax.specs.ReadWhole.{fields_read}
+use Rattle.pps_syntax.proofs.ReadWhole.{read_whole}
 use Rattle.syntax.specs.Element.{Parsed, parsed}
 use Rattle.syntax.specs.Elements.{is_set}
-use Rattle.syntax.specs.Round.{written_then_read}
+use Rattle.syntax.proofs.Round.{written_then_read}
 use Rattle.syntax.specs.Syntax.{parse}
 
 -- ---- zeros

@@ -11,7 +11,7 @@ use Rattle.bit_reader.specs.declared.Cursor.{Cursor}
 use Rattle.bit_reader.specs.declared.BitsRead.{BitsRead}
 use Rattle.partition.specs.Entry.{Position, tile_row_height, split_coded, num_slices_in_tile, split_heights, last_slice_of, next_tile, next_position}
 use Rattle.partition.specs.Grid.{Grid, columns, rows, tiles}
-use Rattle.partition.specs.Sizes.{length-sizes}
+use Rattle.partition.proofs.Sizes.{length-sizes}
 use Rattle.partition.specs.Walk.{row_height_of, onward}
 use Rattle.slice_loop.specs.declared.SliceLoopCtx.{SliceLoopCtx}
 use Rattle.slice_loop.specs.declared.SliceIdx.{SliceIdx}

@@ -13,7 +13,8 @@ use Rattle.partition.specs.Sizes.{sum, explicit_sizes}
 use Rattle.partition.specs.Grid.{Grid, columns, rows, tiles}
 use Rattle.partition.specs.Walk.{row_height_of}
 use Rattle.syntax.specs.Element.{Parsed, parsed}
-use Rattle.syntax.specs.Elements.{ue, se, ue_if, limited, absent, presence, one_if, sameℕ, sameℤ, or_else}
+use Rattle.syntax.specs.Elements.{ue, se, limited, one_if, sameℕ, sameℤ, or_else}
+use Rattle.syntax.proofs.Elements.{ue_if, absent, presence}
 use Rattle.syntax.specs.Lists.{many, none}
 use Rattle.syntax.specs.ReadSteps.{reads, reads-done, reads-test, reads_both, reads_past}
 use Rattle.syntax.specs.Syntax.{parse, ◌for◌}

@@ -3,9 +3,10 @@ use Rattle.std.specs.Prelude.{ℕ, suc, ◌-◌, ◌≡◌, refl, List, [], ◌�
 use Rattle.std.proofs.Common.{sym, arith, lit<, lt-ltb, le-leb, leb-true, eqb-true}
 use Rattle.pps_syntax.specs.Offsets.{offset, offset_or}
 use Rattle.syntax.specs.Element.{Element}
-use Rattle.syntax.specs.Elements.{flag, flag_if, ue_if, or_else, is_set}
+use Rattle.syntax.specs.Elements.{flag, or_else, is_set}
+use Rattle.syntax.proofs.Elements.{flag_if, ue_if}
 use Rattle.syntax.specs.Lists.{many, none, many-length, not-true}
-use Rattle.syntax.specs.Round.{structure}
+use Rattle.syntax.proofs.Round.{structure}
 use Rattle.syntax.specs.Syntax.{Syntax, done, on_writing, on_reading, ◌for◌, ◌>>=◌, ◌&◌, rebuilt, Faithful, Whole}
 
 -- pps_cb_qp_offset_list[ i ], pps_cr_qp_offset_list[ i ] and, with the joint flag, pps_joint_cbcr_qp_offset_list[ i ]

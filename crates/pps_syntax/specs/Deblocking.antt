@@ -4,8 +4,9 @@ use Rattle.std.specs.Prelude.{Bool, ◌&&◌, eqb, pos}
 use Rattle.pps_record.specs.declared.VvcPpsDeblocking.{VvcPpsDeblocking}
 use Rattle.pps_syntax.specs.Offsets.{offset_or}
 use Rattle.syntax.specs.Element.{Element}
-use Rattle.syntax.specs.Elements.{flag, flag_if, is_set}
-use Rattle.syntax.specs.Round.{structure}
+use Rattle.syntax.specs.Elements.{flag, is_set}
+use Rattle.syntax.proofs.Elements.{flag_if}
+use Rattle.syntax.proofs.Round.{structure}
 use Rattle.syntax.specs.Syntax.{Syntax, done, ◌for◌, ◌>>=◌, ◌&◌, rebuilt, Faithful, Whole}
 
 module _ (partitioned with_chroma : Bool) where

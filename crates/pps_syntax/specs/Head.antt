@@ -6,8 +6,9 @@ use Rattle.pps_record.specs.declared.groups.PictureKind.{PictureKind}
 use Rattle.pps_record.specs.declared.VvcPpsConfWinOffsets.{VvcPpsConfWinOffsets}
 use Rattle.pps_record.specs.declared.VvcPpsScalingWinOffsets.{VvcPpsScalingWinOffsets}
 use Rattle.syntax.specs.Element.{Element}
-use Rattle.syntax.specs.Elements.{u, flag, ue, se, ue_if, absent, sameℤ, or_else, is_set}
-use Rattle.syntax.specs.Round.{structure}
+use Rattle.syntax.specs.Elements.{u, flag, ue, se, sameℤ, or_else, is_set}
+use Rattle.syntax.proofs.Elements.{ue_if, absent}
+use Rattle.syntax.proofs.Round.{structure}
 use Rattle.syntax.specs.Syntax.{Syntax, done, on_writing, on_reading, ◌for◌, ◌>>=◌, ◌&◌, rebuilt, Faithful, Whole}
 
 -- width and height are greater than 0

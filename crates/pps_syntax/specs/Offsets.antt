@@ -3,7 +3,8 @@ use Rattle.std.specs.Prelude.{Bool, ◌&&◌, ℤ, pos, negsuc}
 use Rattle.std.proofs.Common.{lit<}
 use Rattle.std.specs.Int.Signed.{le_z}
 use Rattle.syntax.specs.Element.{Element}
-use Rattle.syntax.specs.Elements.{se, limited, absent, sameℤ, or_else}
+use Rattle.syntax.specs.Elements.{se, limited, sameℤ, or_else}
+use Rattle.syntax.proofs.Elements.{absent}
 
 abbrev pub in_range : ℤ → Bool
 in_range v = le_z (negsuc 11) v && le_z v (pos 12)

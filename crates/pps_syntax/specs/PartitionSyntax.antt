@@ -8,9 +8,10 @@ use Rattle.partition.specs.Partition.{Partition, in_ctbs, tile_grid}
 use Rattle.partition.specs.Sizes.{sum, explicit_sizes, axis_sizes}
 use Rattle.pps_syntax.specs.SliceSyntax.{RectSlice, entry_of, rect_slices}
 use Rattle.syntax.specs.Element.{Element}
-use Rattle.syntax.specs.Elements.{u, flag, ue, flag_if, limited, absent, sameℕ, or_else, is_set}
+use Rattle.syntax.specs.Elements.{u, flag, ue, limited, sameℕ, or_else, is_set}
+use Rattle.syntax.proofs.Elements.{flag_if, absent}
 use Rattle.syntax.specs.Lists.{many, none, many-length}
-use Rattle.syntax.specs.Round.{structure}
+use Rattle.syntax.proofs.Round.{structure}
 use Rattle.syntax.specs.Syntax.{Syntax, done, on_writing, on_reading, on_both, ◌for◌, ◌>>=◌, ◌&◌, rebuilt, Faithful, Whole}
 
 pub record PartitionBlock : Type 0 where

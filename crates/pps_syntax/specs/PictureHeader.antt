@@ -3,8 +3,9 @@ use Rattle.std.proofs.Math.Path.{refl}
 use Rattle.std.specs.Prelude.{Bool, ◌&&◌}
 use Rattle.pps_record.specs.declared.groups.PictureHeaderFlags.{PictureHeaderFlags}
 use Rattle.syntax.specs.Element.{Element}
-use Rattle.syntax.specs.Elements.{flag, flag_if, is_set}
-use Rattle.syntax.specs.Round.{structure}
+use Rattle.syntax.specs.Elements.{flag, is_set}
+use Rattle.syntax.proofs.Elements.{flag_if}
+use Rattle.syntax.proofs.Round.{structure}
 use Rattle.syntax.specs.Syntax.{Syntax, done, ◌for◌, ◌>>=◌, ◌&◌, rebuilt, Faithful, Whole}
 
 module _ (partitioned weighted : Bool) where

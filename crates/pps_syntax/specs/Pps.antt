@@ -16,9 +16,10 @@ use Rattle.pps_syntax.specs.References.{references_element}
 use Rattle.pps_syntax.specs.Chroma.{ChromaToolOffsets, chroma_element}
 use Rattle.pps_syntax.specs.Deblocking.{deblocking_element}
 use Rattle.pps_syntax.specs.PictureHeader.{picture_header_element}
-use Rattle.syntax.specs.Elements.{presence, or_else, is_set}
+use Rattle.syntax.specs.Elements.{or_else, is_set}
+use Rattle.syntax.proofs.Elements.{presence}
 use Rattle.syntax.specs.Lists.{none, many}
-use Rattle.syntax.specs.Round.{structure}
+use Rattle.syntax.proofs.Round.{structure}
 use Rattle.syntax.specs.Syntax.{Syntax, done, ◌for◌, ◌>>=◌, ◌&◌, rebuilt, Faithful, Whole}
 
 -- ---- before the partition block

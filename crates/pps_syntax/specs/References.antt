@@ -3,8 +3,9 @@ use Rattle.std.specs.Prelude.{ℕ, refl, leb}
 use Rattle.std.proofs.Common.{lit<}
 use Rattle.pps_record.specs.declared.groups.References.{References}
 use Rattle.syntax.specs.Element.{Element}
-use Rattle.syntax.specs.Elements.{flag, ue, se, ue_if, limited, is_set}
-use Rattle.syntax.specs.Round.{structure}
+use Rattle.syntax.specs.Elements.{flag, ue, se, limited, is_set}
+use Rattle.syntax.proofs.Elements.{ue_if}
+use Rattle.syntax.proofs.Round.{structure}
 use Rattle.syntax.specs.Syntax.{Syntax, done, ◌for◌, ◌>>=◌, ◌&◌, rebuilt, Faithful, Whole}
 
 -- a reference index is at most 14

@@ -8,7 +8,8 @@ use Rattle.partition.specs.Checks.{Check, refuse, Numbered}
 use Rattle.partition.specs.Entry.{some_at_least}
 use Rattle.pps_syntax.specs.SameTests.{not-under}
 use Rattle.syntax.specs.Element.{Element}
-use Rattle.syntax.specs.Elements.{ue, limited, absent, Same, or_else, checked-refusal}
+use Rattle.syntax.specs.Elements.{ue, limited, Same, or_else, checked-refusal}
+use Rattle.syntax.proofs.Elements.{absent}
 use Rattle.syntax.specs.Lists.{many, none}
 
 -- a refusal stays

@@ -8,9 +8,10 @@ use Rattle.partition.specs.Grid.{Grid, columns, rows, tiles}
 use Rattle.partition.specs.Sizes.{sum, explicit_sizes}
 use Rattle.partition.specs.Walk.{row_height_of, onward}
 use Rattle.syntax.specs.Element.{Element}
-use Rattle.syntax.specs.Elements.{ue, se, ue_if, limited, absent, presence, sameℕ, sameℤ, or_else, is_set}
+use Rattle.syntax.specs.Elements.{ue, se, limited, sameℕ, sameℤ, or_else, is_set}
+use Rattle.syntax.proofs.Elements.{ue_if, absent, presence}
 use Rattle.syntax.specs.Lists.{many, none, many-length, not-true, walk}
-use Rattle.syntax.specs.Round.{structure}
+use Rattle.syntax.proofs.Round.{structure}
 use Rattle.syntax.specs.Syntax.{Syntax, done, on_writing, on_reading, on_both, ◌for◌, ◌>>=◌, ◌&◌, rebuilt, Faithful, Whole}
 
 -- an entry of the record: an optional part is a presence flag and a value

@@ -4,9 +4,10 @@ use Rattle.std.proofs.Math.Path.{refl}
 use Rattle.std.proofs.Common.{lit<}
 use Rattle.partition.specs.Grid.{max_slices_minus1, max_slices}
 use Rattle.syntax.specs.Element.{Element}
-use Rattle.syntax.specs.Elements.{u, flag, ue, limited, absent, sameℕ, or_else, is_set}
+use Rattle.syntax.specs.Elements.{u, flag, ue, limited, sameℕ, or_else, is_set}
+use Rattle.syntax.proofs.Elements.{absent}
 use Rattle.syntax.specs.Lists.{many, none}
-use Rattle.syntax.specs.Round.{structure}
+use Rattle.syntax.proofs.Round.{structure}
 use Rattle.syntax.specs.Syntax.{Syntax, done, ◌for◌, ◌>>=◌, ◌&◌, rebuilt, Faithful, Whole}
 
 pub record SubpicIds : Type 0 where

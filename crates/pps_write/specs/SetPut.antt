@@ -6,7 +6,8 @@ use mathlib.Core.List.{List, ◌++◌, append_assoc, append-nil}
 use Rattle.codes.specs.Symbols.{Symbol, refusal_in, first, first-none, refusal-append}
 use Rattle.bit_writer.specs.Played.{played}
 use Rattle.bit_writer.specs.Writing.{Writing, play}
-use Rattle.syntax.specs.Elements.{presence, or_else}
+use Rattle.syntax.specs.Elements.{or_else}
+use Rattle.syntax.proofs.Elements.{presence}
 use Rattle.syntax.specs.Lists.{many, none}
 use Rattle.syntax.specs.Syntax.{◌>>=◌, symbols_for}
 use Rattle.pps_put_slices.specs.Stop.{up_to_refusal, same-refusal, unrefused-whole}

@@ -8,7 +8,8 @@ use lib.Dec.{ltb, leb, eqb}
 use lib.ListN.{length}
 use Rattle.partition.specs.Checks.{first_bad, number_of}
 use Rattle.partition.specs.Entry.{asking, height_coded, inherited_height, split_coded, split_heights, num_slices_in_tile, last_slice_of, some_at_least, tile_x, tile_y, default_advance, delta_refused, delta_uncodable, size_checks, inherited_checks, split_checks, move_checks}
-use Rattle.partition.specs.Sizes.{sum, explicit_sizes, some_size}
+use Rattle.partition.specs.Sizes.{sum, explicit_sizes}
+use Rattle.partition.proofs.Sizes.{some_size}
 use Rattle.syntax.specs.Elements.{is_set}
 use Rattle.pps_tables.specs.declared.RectSliceEntry.{RectSliceEntry}
 use Rattle.slice_loop.specs.declared.TileIdx.{TileIdx}

@@ -5,7 +5,7 @@ use Rattle.std.proofs.Math.Bool.{true, false, cond}
 use Rattle.std.proofs.Common.{arith, leb-true, leb-false, le-leb}
 use Rattle.std.proofs.lemmas.Bool.{lt-leb}
 use Rattle.partition.specs.Entry.{tile_after_delta, delta_refused}
-use Rattle.partition.specs.Placed.{delta-inside}
+use Rattle.partition.proofs.Placed.{delta-inside}
 use Rattle.slice_loop.specs.declared.NextTile.{NextTile}
 use Rattle.slice_loop.specs.Answers.{tile_idx_of, no_tile, next_by_delta}
 

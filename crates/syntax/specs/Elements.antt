@@ -181,10 +181,6 @@ inferred {A} same value ok fit n =
           ap₂ (λ (x : A) (y : ℕ). parsed x (cursor_at y)) (sym (same.is v value c)) (sym (add-zero at) ∙ none.reaches);
     }
 
--- writing any other value than the inferred one is refused with n; where n is 0 it is passed over
-abbrev pub absent : {A : Type 0} → Same A → A → ℕ → Element A
-absent same value n = inferred same value (λ v. same.test v value) (same.self value) n
-
 -- a flag that is set
 abbrev pub is_set : ℕ → Bool
 is_set v = not (eqb v 0)
@@ -195,10 +191,6 @@ one_if b = cond b 1 0
 pub one_set : (b : Bool) → beq (is_set (one_if b)) b ≡ true
 one_set true = refl
 one_set false = refl
-
--- a presence flag that the record holds beside the syntax: set where the syntax has the part, else refused with n
-abbrev pub presence : Bool → ℕ → Element ℕ
-presence there n = inferred sameℕ (one_if there) (λ v. beq (is_set v) there) (one_set there) n
 
 -- ---- one element or another, by a condition
 unfoldable pub or_else : {A : Type 0} → Bool → Element A → Element A → Element A
@@ -212,10 +204,3 @@ or-true on x y e = rw e
 pub or-false : {A : Type 0} (on : Bool) (x y : Element A) → on ≡ false → or_else on x y ≡ y
 unfolding or_else
 or-false on x y e = rw e
-
--- coded where `on`; else 0 is inferred, and writing passes over whatever the record holds
-abbrev pub flag_if : Bool → Element ℕ
-flag_if on = or_else on flag (absent sameℕ 0 0)
-
-abbrev pub ue_if : Bool → Element ℕ
-ue_if on = or_else on ue (absent sameℕ 0 0)

@@ -5,6 +5,4 @@ pub mod Elements
 pub mod Lists
 pub mod ReadSteps
 pub mod WriteSteps
-pub mod Once
 pub mod Facts
-pub mod Examples

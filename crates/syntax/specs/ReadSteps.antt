@@ -1,14 +1,12 @@
 -- How a function that reads is shown to follow a description: what is known of its calls, one step for each, the last call first.
-use Rattle.std.specs.Prelude.{ℕ, ◌<◌, ◌≡◌, List, Bool, true, false, ℤ}
+use Rattle.std.specs.Prelude.{ℕ, ◌<◌, ◌≡◌, List, Bool}
 use Rattle.std.proofs.Math.Path.{refl, ap}
 use Rattle.bit_reader.specs.declared.Cursor.{Cursor}
-use Rattle.bit_reader.specs.declared.BitsRead.{BitsRead}
 use Rattle.bit_reader.specs.declared.ByteRead.{ByteRead}
-use Rattle.bit_reader.specs.declared.SignedRead.{SignedRead}
-use Rattle.bit_reader.specs.Reading.{u_read, byte_read, demanded, byte_or, bits_or, signed_or}
-use Rattle.syntax.specs.Element.{Parsed, parsed, Element}
+use Rattle.bit_reader.specs.Reading.{u_read, byte_read, demanded}
+use Rattle.syntax.specs.Element.{Parsed, parsed}
 use Rattle.syntax.specs.Syntax.{Syntax, done, on_writing, on_reading, on_both, Placed, ◌>>=◌, parse}
-use Rattle.syntax.specs.Elements.{bits_parsed, signed_parsed, sameℕ, sameℤ, absent, or_else}
+use Rattle.syntax.specs.Elements.{bits_parsed}
 
 module _ {R : Type 0} where
   -- the end
@@ -36,27 +34,10 @@ module _ {R : Type 0} where
   reads_past test n k s c = refl
 
 -- ---- what the readers of bits give
+
 abbrev pub byte_parsed : ByteRead → Parsed ℕ
 byte_parsed r = parsed r.value r.next
 
 pub byte_reads : (s : List ℕ) (c : Cursor) (n : ℕ) → byte_parsed (byte_read s c n) ≡ bits_parsed (u_read s c n)
 unfolding byte_read
 byte_reads s c n = refl
-
-pub byte_or_lem : (on : Bool) (e : Element ℕ) (value n : ℕ) (s : List ℕ) (c : Cursor) (r : ByteRead) → byte_parsed r ≡ e.read s c
-    → byte_parsed (byte_or on r value c) ≡ (or_else on e (absent sameℕ value n)).read s c
-unfolding or_else byte_or
-byte_or_lem true e value n s c r h = h
-byte_or_lem false e value n s c r h = refl
-
-pub bits-or : (on : Bool) (e : Element ℕ) (value n : ℕ) (s : List ℕ) (c : Cursor) (r : BitsRead) → bits_parsed r ≡ e.read s c
-    → bits_parsed (bits_or on r value c) ≡ (or_else on e (absent sameℕ value n)).read s c
-unfolding or_else bits_or
-bits-or true e value n s c r h = h
-bits-or false e value n s c r h = refl
-
-pub signed-or : (on : Bool) (e : Element ℤ) (value : ℤ) (n : ℕ) (s : List ℕ) (c : Cursor) (r : SignedRead) → signed_parsed r ≡ e.read s c
-    → signed_parsed (signed_or on r value c) ≡ (or_else on e (absent sameℤ value n)).read s c
-unfolding or_else signed_or
-signed-or true e value n s c r h = h
-signed-or false e value n s c r h = refl

@@ -1,13 +1,10 @@
 -- How a function that writes is shown to follow a description: what is known of its calls, one step for each, the last call first.
-use Rattle.std.specs.Prelude.{ℕ, ◌<◌, ◌≡◌, Bool, true, false}
+use Rattle.std.specs.Prelude.{ℕ, ◌<◌, ◌≡◌, Bool}
 use Rattle.std.proofs.Math.Path.{refl, sym, ap}
 use Rattle.std.proofs.Common.{◌∙◌}
-use Rattle.codes.specs.Coded.{only_if}
-use Rattle.codes.specs.Symbols.{check, check-none}
+use Rattle.codes.specs.Symbols.{check}
 use Rattle.bit_writer.specs.Writing.{Writing, play, play-append, play-none}
-use Rattle.syntax.specs.Element.{Element}
 use Rattle.syntax.specs.Syntax.{Syntax, done, on_writing, on_reading, Placed, ◌>>=◌, symbols_for}
-use Rattle.syntax.specs.Elements.{Same, absent, or_else}
 
 module _ {R : Type 0} where
   -- the end
@@ -32,10 +29,3 @@ module _ {R : Type 0} where
   pub writes_past : (ok : Bool) (n : ℕ) (l : 0 < n) (k : Syntax R) (r : R) (w : Writing) → play w (symbols_for k r) ≡ play w (symbols_for (on_reading ok n l k) r)
   unfolding symbols_for
   writes_past ok n l k r w = refl
-
--- the guarded writers: an element that is written where `on`, and passed over elsewhere
-pub writes-or : {A : Type 0} (on : Bool) (e : Element A) (same : Same A) (value v : A) (w : Writing) {x : Writing} → x ≡ play w (only_if on (e.symbols v))
-    → x ≡ play w ((or_else on e (absent same value 0)).symbols v)
-unfolding or_else
-writes-or true e same value v w h = h
-writes-or false e same value v w h = h ∙ ap (play w) (sym (check-none (same.test v value)))

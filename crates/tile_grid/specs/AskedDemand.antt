@@ -5,7 +5,8 @@ use Rattle.std.proofs.Common.{sym, ap, ◌∙◌, inl, inr, arith, ne_eqb}
 use Rattle.partition.specs.Accepted.{Planned, Accepted, without-slices, with_slices, accepted-or-declined}
 use Rattle.partition.specs.Checks.{Outcome, fine, refused_with, first_bad}
 use Rattle.partition.specs.Cover.{EachBlock}
-use Rattle.partition.specs.Demand.{OneTile, exactly_one-tile, tile_limits}
+use Rattle.partition.specs.Demand.{OneTile}
+use Rattle.partition.proofs.Demand.{exactly_one-tile, tile_limits}
 use Rattle.partition.specs.Entry.{asking}
 use Rattle.partition.specs.Grid.{Grid, columns, tiles, max_tile_columns, max_tiles}
 use Rattle.partition.specs.Groups.{Group}

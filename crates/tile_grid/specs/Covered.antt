@@ -4,12 +4,13 @@ use Rattle.std.proofs.Math.Path.{◌≡◌, refl, sym, ap}
 use Rattle.std.proofs.Common.{◌∙◌, arith}
 use Rattle.std.proofs.Math.Bool.{true, false}
 use Rattle.std.proofs.Math.Nat.{mul_comm}
-use Rattle.partition.specs.Cover.{Cover, RightTiles, tiles-right}
+use Rattle.partition.specs.Cover.{Cover, RightTiles}
+use Rattle.partition.proofs.Cover.{tiles-right}
 use Rattle.partition.specs.Entry.{asking, first_position}
 use Rattle.partition.specs.Grid.{Grid, columns, rows, tiles, max_tile_columns, max_tiles, max_slices}
 use Rattle.partition.specs.Groups.{Group, AllFit, groups_at}
 use Rattle.partition.specs.Partition.{Layout, declined, unsliced, sliced, plan_of}
-use Rattle.partition.specs.Placed.{walk-fits, walk-groups}
+use Rattle.partition.proofs.Placed.{walk-fits, walk-groups}
 use Rattle.pps_record.specs.declared.VvcPps.{VvcPps}
 use Rattle.pps_syntax.specs.BlockRefusal.{declined_with}
 use Rattle.pps_syntax.specs.FromRecord.{Lent}

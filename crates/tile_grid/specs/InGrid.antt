@@ -8,14 +8,16 @@ use Rattle.std.proofs.Math.Nat.{mul-pos}
 use Rattle.std.proofs.Math.Dec.{eqb}
 use Rattle.std.proofs.Math.Seq.{take-append_seam}
 use borrow.Author.Tests.{eqb-true, eqb-false, eq-eqb, ne_eqb}
-use Rattle.partition.specs.Accepted.{GridFits, grid-fits}
+use Rattle.partition.specs.Accepted.{GridFits}
+use Rattle.partition.proofs.Accepted.{grid-fits}
 use Rattle.partition.specs.Checks.{Check, Outcome, fine, refused_with, first_bad, number_of, passes, number-refused, Numbered, zero-fine}
 use Rattle.partition.specs.Entry.{asking}
 use Rattle.partition.specs.Grid.{Grid, grid_with, tiles, columns, rows, max_tile_columns, max_tiles, max_slices_minus1}
 use Rattle.partition.specs.Groups.{Group}
 use Rattle.partition.specs.Partition.{in_ctbs, tile_grid, explicit_checks, axis_checks, grid_checks, grid_of, grid_checks_of, delta_flag_checks, partition_checks, Layout, declined, unsliced, sliced, unless, layout}
 use Rattle.partition.specs.Walk.{placed}
-use Rattle.partition.specs.Sizes.{axis_sizes, Fit, pos_sizes, sum-sizes}
+use Rattle.partition.specs.Sizes.{axis_sizes, Fit}
+use Rattle.partition.proofs.Sizes.{pos_sizes, sum-sizes}
 use Rattle.pps_record.specs.declared.VvcPps.{VvcPps}
 use Rattle.pps_record.specs.declared.VvcPpsPartition.{VvcPpsPartition}
 use Rattle.pps_syntax.specs.BlockRefusal.{declined_with, ctbs_most}

@@ -2,7 +2,7 @@
 use Rattle.std.specs.Prelude.{◌+◌, ◌≤◌, ◌≡◌, false, List, length}
 use Rattle.std.proofs.Common.{subst, ◌∙◌}
 use Rattle.partition.specs.Cover.{EachBlock, Exactly}
-use Rattle.partition.specs.Demand.{slice-count, slices-inside, no-block_in_two, cover_exactly}
+use Rattle.partition.proofs.Demand.{slice-count, slices-inside, no-block_in_two, cover_exactly}
 use Rattle.partition.specs.Grid.{Grid, pic_width, pic_height}
 use Rattle.partition.specs.Groups.{Group, plan}
 use Rattle.partition.specs.Partition.{Partition, grid_of, Layout, sliced}

@@ -2,7 +2,8 @@
 use Rattle.std.specs.Prelude.{ℕ, suc, ◌+◌, ◌*◌, ◌≤◌, ◌<◌, ◌≡◌, refl, List, Bool, true, false, eqb, length, get_or, set}
 use Rattle.std.proofs.Common.{mul-le-mul_left, sym, ap, ◌∙◌, add-one, arith, length-set, get_or-set_same, get_or-set_other, eqb-true}
 use Rattle.std.proofs.lemmas.Bool.{eqb-false}
-use Rattle.partition.specs.Axis.{boundary, boundary-zero, boundary-suc, boundary_le}
+use Rattle.partition.specs.Axis.{boundary, boundary_le}
+use Rattle.partition.proofs.Axis.{boundary-zero, boundary-suc}
 use Rattle.partition.specs.Grid.{max_tiles}
 use Rattle.partition.specs.Sizes.{sum, Positive}
 

@@ -12,7 +12,8 @@ use lib.Seq.{take-suc, take_all, drop-cons}
 use borrow.Author.Tests.{le-leb, lt-leb, leb-true, leb-false, le-ltb, lt-ltb}
 use Rattle.partition.specs.Entry.{split_heights, num_slices_in_tile}
 use Rattle.tile_sizes.specs.Answers.{slices_in_tile}
-use Rattle.partition.specs.Sizes.{sum, explicit_sizes, uniform_size, axis_sizes, length-sizes, uniform_pos}
+use Rattle.partition.specs.Sizes.{sum, explicit_sizes, uniform_size, axis_sizes, uniform_pos}
+use Rattle.partition.proofs.Sizes.{length-sizes}
 
 -- ---- pieces
 

@@ -3,7 +3,8 @@ use Rattle.std.specs.Prelude.{◌≡◌, refl, List, [], ◌∷◌, ◌++◌, Bo
 use Rattle.std.proofs.Common.{◌∙◌, mod-eq_of_lt, add-one, arith, ltb-true, ltb-false, length-append}
 use Rattle.std.proofs.Math.Nat.{div-eq-sub-div, mod-eq-sub-mod, div-eq_of_lt, zero-div, zero-mod, div-zero, mod-zero}
 use Rattle.std.proofs.lemmas.List.{length-replicate}
-use Rattle.partition.specs.Sizes.{sum, explicit_sizes, uniform_size, tail_size, uniform_sizes, axis_sizes, length-sizes, Fit}
+use Rattle.partition.specs.Sizes.{sum, explicit_sizes, uniform_size, tail_size, uniform_sizes, axis_sizes, Fit}
+use Rattle.partition.proofs.Sizes.{length-sizes}
 use Rattle.tile_sizes.specs.Answers.{next_size}
 
 -- ---- one size after the other

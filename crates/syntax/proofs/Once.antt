@@ -7,7 +7,7 @@ use Rattle.bit_writer.specs.Packed.{packed, aligned}
 use Rattle.bit_writer.specs.Writing.{trailing_bits}
 use Rattle.bit_writer.specs.ReadBack.{packed-holds}
 use Rattle.syntax.specs.Element.{Parsed, parsed}
-use Rattle.syntax.specs.Round.{written_then_read, binary_for}
+use Rattle.syntax.proofs.Round.{written_then_read, binary_for}
 use Rattle.syntax.specs.Syntax.{Syntax, parse, bits_for, refusal_for, canonical_for, Whole}
 
 -- The bound on their number of bits keeps positions below 2^64.

@@ -8,7 +8,8 @@ use Rattle.codes.specs.Symbols.{first, refusal_in, bits_in, check, checked}
 use Rattle.bit_reader.specs.declared.Cursor.{Cursor}
 use Rattle.bit_reader.specs.Reading.{cursor_at, unless_refused, onward, u_read, stops, zeros_at, ue_after, ue_within, ue_read, se_read, demanded}
 use Rattle.syntax.specs.Element.{Parsed}
-use Rattle.syntax.specs.Elements.{u, flag, ue, se, limited, or_else, absent, sameℤ, is_set}
+use Rattle.syntax.specs.Elements.{u, flag, ue, se, limited, or_else, sameℤ, is_set}
+use Rattle.syntax.proofs.Elements.{absent}
 use Rattle.syntax.specs.Lists.{many}
 use Rattle.syntax.specs.Syntax.{Syntax, done, ◌for◌, ◌>>=◌, ◌&◌, parse, symbols_for, bits_for, refusal_for, canonical_for, rebuilt, Faithful, Whole}
 

@@ -1,0 +1,11 @@
+pub mod Accepted
+pub mod Apart
+pub mod Axis
+pub mod Cover
+pub mod Demand
+pub mod Grid
+pub mod Groups
+pub mod Lowest
+pub mod Placed
+pub mod Sizes
+pub mod Sums

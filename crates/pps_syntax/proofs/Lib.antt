@@ -1,0 +1,12 @@
+pub mod BlockRefusal
+pub mod EntryAccepted
+pub mod EntryRefusal
+pub mod Laid
+pub mod ListsFit
+pub mod ReadAccepted
+pub mod ReadDemand
+pub mod ReadWhole
+pub mod SlicesFit
+pub mod WalkAccepted
+pub mod WalkRefusal
+pub mod WrittenBack
