@@ -1,0 +1,5 @@
+use borrow.Author.Rules.{rules}
+use Rattle.vvc_pps.proofs.questions.vvc_cover.Goals as goal
+
+pub returns : goal.returns
+returns c = (_, (c.slice_cover.ensures, c.of_cover.ensures))

@@ -1,0 +1,7 @@
+use mathlib.Core.Path.{ap, ◌∙◌}
+use Rattle.vvc_pps.specs.QuestionAnswers.{grid_held}
+use borrow.Author.Rules.{rules}
+use Rattle.vvc_pps.proofs.questions.vvc_tile_grid.Goals as goal
+
+pub returns : goal.returns
+returns c = c.of_grid.ensures ∙ ap grid_held c.of_record.ensures

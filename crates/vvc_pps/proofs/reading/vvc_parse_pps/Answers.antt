@@ -1,0 +1,8 @@
+use Rattle.vvc_pps.specs.PpsAnswer.{read_held_lem}
+use borrow.Author.Rules.{rules}
+use Rattle.vvc_pps.proofs.reading.vvc_parse_pps.Goals as goal
+
+pub returns : goal.returns
+returns c = read_held_lem _ _ _ _ _
+    c.of_pps_read.ensures
+    c.parse_pps.ensures

@@ -1,0 +1,7 @@
+use mathlib.Core.Path.{ap, ◌∙◌}
+use Rattle.vvc_pps.specs.Answers.{byte_count}
+use borrow.Author.Rules.{rules}
+use Rattle.vvc_pps.proofs.vvc_sink_answer.Goals as goal
+
+pub returns : goal.returns
+returns c = c.of_byte_count.ensures ∙ ap byte_count c.answer.ensures

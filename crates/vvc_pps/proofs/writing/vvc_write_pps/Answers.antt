@@ -1,0 +1,6 @@
+use Rattle.vvc_pps.specs.Answers.{written_held_lem}
+use borrow.Author.Rules.{rules}
+use Rattle.vvc_pps.proofs.writing.vvc_write_pps.Goals as goal
+
+pub returns : goal.returns
+returns c = written_held_lem _ _ _ _ c.of_byte_count.ensures c.write_pps.ensures
