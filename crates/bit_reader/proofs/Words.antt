@@ -1,10 +1,10 @@
 -- How a u32 and an i32 compute what the definitions say of plain numbers.
-use Prim.Native.Nat.{ℕ, zero, suc, ◌+◌, ◌*◌, ◌%◌, ◌^◌, ◌<◌}
+use Prim.Native.Nat.{ℕ, zero, suc, ◌*◌, ◌%◌, ◌^◌, ◌<◌}
 use mathlib.Core.Path.{◌≡◌, ◌∙◌}
 use mathlib.Core.List.{List}
 use native.Mathlib.Nat.{one-mul}
 use native.Mathlib.Omega.{arith}
-use lib.IntN.{ℤ, pos, neg_ℤ, ◌-ℤ◌, +ℤ_idl}
+use lib.IntN.{pos, neg_ℤ, ◌-ℤ◌, +ℤ_idl}
 use lib.Pow.{pow_mono, shl_exact}
 use mir.Facts.{to_z_pos, sfits_lit}
 use mir.Syntax.{w32}

@@ -1,5 +1,5 @@
 -- Codes read back: where the bytes hold the code of a value, the reader gives that value and moves by the code's length, whatever follows.
-use Rattle.std.specs.Prelude.{ℕ, zero, suc, ◌+◌, ◌-◌, ◌*◌, ◌^◌, ◌≤◌, ◌<◌, ◌≡◌, refl, List, true, ℤ}
+use Rattle.std.specs.Prelude.{ℕ, zero, suc, ◌+◌, ◌*◌, ◌^◌, ◌≤◌, ◌<◌, ◌≡◌, refl, List, true, ℤ}
 use Rattle.std.proofs.Common.{sym, ap, subst, ◌∙◌, add-zero, add-suc, suc-add, zero-mul, suc-mul, mod-eq_of_lt, add-one, arith, pow_pos, pow_mono}
 use Rattle.codes.specs.Bits.{to_bits}
 use Rattle.codes.specs.Bytes.{bit_count, bit_at, bits_at, bit-lt, bits-lt, bits-append, bits-first}

@@ -2,7 +2,7 @@
 use mathlib.Core.Path.{◌≡◌, sym, ap, ◌∙◌}
 use mathlib.Core.List.{List, [], ◌∷◌, ◌++◌}
 use mathlib.Core.Bool.{Bool, true, false, cond}
-use Prim.Native.Nat.{ℕ, ◌+◌, ◌/◌, ◌≤◌, ◌<◌, min}
+use Prim.Native.Nat.{ℕ, ◌/◌, ◌≤◌, ◌<◌, min}
 use native.Mathlib.Nat.{div-le_self, le_trans}
 use native.Mathlib.Omega.{arith}
 use lib.Dec.{ltb, leb, lit<}

@@ -8,7 +8,7 @@ use Rattle.std.proofs.Math.Dec.{eqb}
 use Rattle.std.proofs.Math.ListN.{length}
 use borrow.Author.Tests.{eqb-true, eqb-false, ne_eqb, le-ltb}
 use Rattle.codes.specs.Coded.{ue_symbols}
-use Rattle.codes.specs.Symbols.{Symbol, check, check-true, refuse, first}
+use Rattle.codes.specs.Symbols.{Symbol, check, check-true}
 use Rattle.bit_writer.specs.Writing.{Writing, play}
 use Rattle.partition.specs.Checks as checks
 use Rattle.partition.specs.Checks.{Check, refused_with, first_bad, number_of, AllPass, Numbered, not_past}

@@ -1,5 +1,5 @@
 -- How code comes to the groups of the partition block: from what its calls give to `Puts`.
-use Prim.Native.Nat.{ℕ, suc, ◌+◌, ◌-◌, ◌≤◌, ◌<◌, min}
+use Prim.Native.Nat.{ℕ, suc, ◌-◌, ◌≤◌, min}
 use Rattle.std.specs.Prelude.{◌≡◌, refl, List, [], ◌∷◌, ◌++◌, Bool, true, false, ◌&&◌, eqb, ltb, leb, length}
 use Rattle.std.proofs.Common.{sym, ◌∙◌, arith, lit<, leb-true}
 use Rattle.std.proofs.Math.Path.{ap}

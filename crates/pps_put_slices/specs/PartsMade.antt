@@ -1,5 +1,5 @@
 -- How code comes to the parts of an entry: from what its calls give to `Parts`.
-use Rattle.std.specs.Prelude.{ℕ, ◌+◌, ◌-◌, ◌≤◌, ◌<◌, ◌≡◌, refl, List, [], ◌∷◌, Bool, true, false, not, cond, eqb, ltb, leb, length}
+use Rattle.std.specs.Prelude.{ℕ, ◌+◌, ◌-◌, ◌≤◌, ◌≡◌, refl, List, [], ◌∷◌, Bool, true, false, not, cond, eqb, ltb, leb, length}
 use Rattle.std.proofs.Common.{sym, ◌∙◌, arith, lit<, eqb-true, leb-true}
 use Rattle.std.proofs.Math.Path.{ap}
 use Rattle.std.specs.Bool.{beq}

@@ -1,5 +1,5 @@
 -- The parts of an entry, read one behind the other, read the entry as its description says.
-use Rattle.std.specs.Prelude.{ℕ, ◌+◌, ◌-◌, ◌<◌, ◌≡◌, List, [], Bool, true, false, not, ◌&&◌, ◌||◌, leb, pos}
+use Rattle.std.specs.Prelude.{ℕ, ◌+◌, ◌-◌, ◌≡◌, List, [], Bool, true, false, not, ◌&&◌, ◌||◌, leb, pos}
 use Rattle.std.proofs.Math.Path.{refl, sym, ap}
 use Rattle.std.proofs.Common.{◌∙◌, arith, lit<, le-leb}
 use Rattle.std.proofs.Math.Bool.{cond}

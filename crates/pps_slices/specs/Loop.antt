@@ -1,6 +1,6 @@
 -- The slice loop (H.266 7.3.2.5), read into the lent tables: entry i goes to row i, its explicit slice heights behind
 -- those of the entries before it.
-use Prim.Native.Nat.{ℕ, zero, suc, ◌+◌, ◌-◌}
+use Prim.Native.Nat.{ℕ, zero, suc, ◌+◌}
 use Rattle.std.specs.Prelude.{◌≡◌, List, [], ◌∷◌, ◌++◌, map, Bool, true, false, cond, eqb, ltb, length, set}
 use Rattle.std.proofs.Math.Path.{refl}
 use Rattle.std.proofs.Common.{append_assoc, append-nil}

@@ -1,5 +1,5 @@
 -- What the way to the next tile gives.
-use Rattle.std.specs.Prelude.{ℕ, ◌≤◌, ◌<◌, min, ◌≡◌, List, Bool, cond, ◌&&◌, ◌||◌, eqb, pos}
+use Rattle.std.specs.Prelude.{ℕ, ◌≤◌, min, ◌≡◌, List, Bool, cond, ◌&&◌, ◌||◌, eqb, pos}
 use Rattle.std.proofs.Math.Path.{refl, sym, ap}
 use Rattle.std.proofs.Common.{◌∙◌, arith, lit<, ltb-true, ltb-false, lt-ltb, le-ltb}
 use Rattle.std.proofs.Math.Bool.{true, false, not}

@@ -1,5 +1,5 @@
 -- The partition block: writing it by the description refuses with the number with which the definitions of tiles and slices decline it, in writing's order.
-use Prim.Native.Nat.{ℕ, zero, suc, ◌+◌, ◌-◌, ◌/◌, ◌≤◌, ◌<◌}
+use Prim.Native.Nat.{ℕ, zero, suc, ◌-◌, ◌/◌, ◌≤◌, ◌<◌}
 use Rattle.std.specs.Prelude.{◌≡◌, refl, Bool, true, false, cond, ◌&&◌, eqb, ltb, leb, get_or}
 use Rattle.std.proofs.Math.Path.{sym}
 use Rattle.std.proofs.Common.{◌∙◌, div-le_self, arith, lit<, ltb-true, ltb-false, ne_eqb, le-leb}
@@ -12,7 +12,7 @@ use Rattle.codes.specs.Symbols.{Symbol, refusal_in, check, refusal-putting, refu
 use Rattle.partition.proofs.Axis.{span-one, span_le}
 use Rattle.partition.specs.Checks.{Check, refuse, refused_with, first_bad}
 use Rattle.partition.specs.Entry.{first_position, writing, tile_y, tile_row_height, some_at_least}
-use Rattle.partition.specs.Grid.{Grid, columns, rows, tiles, max_tile_columns, max_tiles, max_slices_minus1}
+use Rattle.partition.specs.Grid.{Grid, tiles, max_tile_columns, max_tiles, max_slices_minus1}
 use Rattle.partition.specs.Partition.{in_ctbs, tile_grid, explicit_checks, axis_checks, grid_checks, grid_of, grid_checks_of, slices_coded, delta_flag_checks, partition_checks, Layout, unsliced, from_walk, unless, layout}
 use Rattle.partition.specs.Sizes.{sum, explicit_sizes, axis_sizes}
 use Rattle.partition.proofs.Sizes.{sum-sizes}

@@ -2,7 +2,7 @@
 use Prim.Native.Nat.{ℕ, ◌-◌, ◌<◌}
 use Rattle.std.specs.Prelude.{◌≡◌, false, ◌&&◌, ◌||◌, eqb, pos, negsuc, length}
 use Rattle.std.proofs.Math.Path.{refl}
-use mathlib.Core.List.{List, []}
+use mathlib.Core.List.{List}
 use Rattle.std.proofs.Math.Bool.{Bool, true, not, beq}
 use Rattle.std.proofs.Common.{arith, lit<}
 use Rattle.std.proofs.Math.Dec.{ltb, leb}

@@ -1,10 +1,9 @@
 -- The lists of a set that was read fit the tables that are lent for them, of the lengths that docs/BEHAVIOUR.md states: no entry that the record counts is left out.
-use Rattle.std.specs.Prelude.{ℕ, ◌-◌, ◌≤◌, ◌<◌, ◌≡◌, List, [], ◌∷◌, Bool, true, false, ltb, length}
+use Rattle.std.specs.Prelude.{ℕ, ◌-◌, ◌≤◌, ◌≡◌, List, [], ◌∷◌, Bool, true, false, ltb, length}
 use Rattle.std.proofs.Common.{arith, lit<, ltb-true}
 use Rattle.codes.specs.Symbols.{refusal_in}
 use Rattle.partition.specs.Entry.{first_position}
 use Rattle.partition.specs.Grid.{Grid, max_tile_columns, max_tiles, max_slices_minus1, max_slices}
-use Rattle.pps_syntax.specs.Chroma.{chroma}
 use Rattle.pps_syntax.specs.PartitionSyntax.{PartitionBlock, partition, partition_element, coded}
 use Rattle.pps_syntax.specs.Pps.{Pps, front, back, pps, partitioned, pic_width, pic_height}
 use Rattle.pps_syntax.specs.Rbsp.{ReadSet, accepted, read_rbsp}
@@ -12,7 +11,6 @@ use Rattle.pps_syntax.proofs.ReadWhole.{read_whole}
 use Rattle.pps_syntax.specs.SliceSyntax.{RectSlice, rect_slices}
 use Rattle.pps_syntax.specs.SliceTables.{all_split_heights}
 use Rattle.pps_syntax.proofs.SlicesFit.{slices-fit}
-use Rattle.pps_syntax.specs.SubpicIds.{subpic_ids}
 use Rattle.syntax.specs.Elements.{or_else, is_set}
 use Rattle.syntax.specs.Facts.{Facts, facts}
 use Rattle.syntax.specs.Lists.{many, none, not-true}

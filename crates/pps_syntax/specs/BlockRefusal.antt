@@ -1,13 +1,9 @@
 -- The partition block: writing it by the description refuses with the number with which the definitions of tiles and slices decline it, in writing's order.
 use Prim.Native.Nat.{ℕ, suc, ◌+◌, ◌-◌, ◌*◌, ◌^◌, ◌≤◌, ◌<◌}
 use Rattle.std.proofs.Common.{div-lt_iff_lt-mul, mul-le-mul_left, le_of_suc-le-suc, arith, pow_pos}
-use mathlib.Core.List.{[]}
 use Rattle.std.proofs.Math.ListN.{length}
-use Rattle.partition.specs.Grid.{columns, rows}
 use Rattle.partition.specs.Partition.{in_ctbs, Layout, declined, unsliced, sliced}
-use Rattle.partition.specs.Walk as walks
 use Rattle.pps_syntax.specs.PartitionSyntax.{PartitionBlock}
-use Rattle.pps_syntax.specs.SliceSyntax.{rect_slices}
 use Rattle.pps_syntax.specs.WalkRefusal.{Deltas32}
 
 -- The number with which a layout is declined, 0 where it is not.

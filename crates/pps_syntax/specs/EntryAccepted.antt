@@ -1,5 +1,5 @@
 -- One entry of the slice loop: where writing it is refused nowhere and reading could have given it, it passes every check of the questions.
-use Prim.Native.Nat.{ℕ, zero, suc, ◌-◌, ◌<◌}
+use Prim.Native.Nat.{ℕ, zero, suc, ◌<◌}
 use Rattle.std.specs.Prelude.{◌≡◌, false}
 use Rattle.std.proofs.Math.Path.{refl}
 use mathlib.Core.List.{List, [], ◌∷◌}

@@ -1,5 +1,5 @@
 -- One entry of the slice loop: writing it by the description refuses with the number of the first check that fails, in the order of the one list of checks.
-use Prim.Native.Nat.{ℕ, ◌-◌, ◌≤◌}
+use Prim.Native.Nat.{ℕ, ◌≤◌}
 use Rattle.partition.specs.Grid.{Grid, columns, rows}
 use Rattle.partition.specs.Walk.{row_height_of}
 

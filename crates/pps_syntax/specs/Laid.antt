@@ -1,5 +1,5 @@
 -- A partition block whose writing is refused nowhere and that reading could have given is accepted: the questions give it a layout. So is every block that was read.
-use Rattle.std.specs.Prelude.{ℕ, ◌-◌, ◌≡◌, [], Bool, ◌&&◌, eqb}
+use Rattle.std.specs.Prelude.{ℕ, ◌≡◌, Bool, ◌&&◌, eqb}
 use Rattle.std.proofs.Common.{ap}
 use Rattle.partition.specs.Partition.{slices_coded}
 use Rattle.pps_syntax.specs.PartitionSyntax.{PartitionBlock, coded, partition_of}

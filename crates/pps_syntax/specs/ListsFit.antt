@@ -4,9 +4,8 @@ use Rattle.std.proofs.Common.{arith, lit<, leb-true, eqb-true}
 use Rattle.codes.specs.Symbols.{refusal_in, check}
 use Rattle.partition.specs.Grid.{max_tile_columns, max_tiles, max_slices_minus1, max_slices}
 use Rattle.pps_syntax.specs.Chroma.{ChromaToolOffsets, chroma}
-use Rattle.pps_syntax.specs.PartitionSyntax.{PartitionBlock, partition}
-use Rattle.pps_syntax.specs.Pps.{Pps, front, back}
-use Rattle.pps_syntax.specs.SliceSyntax.{rect_slices}
+use Rattle.pps_syntax.specs.PartitionSyntax.{PartitionBlock}
+use Rattle.pps_syntax.specs.Pps.{Pps}
 use Rattle.pps_syntax.specs.SliceTables.{all_split_heights}
 use Rattle.pps_syntax.specs.SubpicIds.{SubpicIds, subpic_ids, max_subpics, max_subpics_minus1}
 use Rattle.syntax.specs.Element.{Element}

@@ -1,5 +1,5 @@
 -- The tile and slice partition block (H.266 7.3.2.5, 7.4.3.5) of a picture of W by H luma samples: one description, read and written.
-use Rattle.std.specs.Prelude.{ℕ, suc, ◌-◌, ◌/◌, ◌<◌, ◌≡◌, List, map, Bool, true, not, ◌&&◌, eqb, ltb, leb, length}
+use Rattle.std.specs.Prelude.{ℕ, suc, ◌-◌, ◌/◌, ◌≡◌, List, map, Bool, true, not, ◌&&◌, eqb, ltb, leb, length}
 use Rattle.std.proofs.Math.Path.{refl}
 use Rattle.std.proofs.Common.{arith, lit<, ne_eqb}
 use Rattle.partition.specs.Entry.{first_position}

@@ -6,9 +6,8 @@ use mathlib.Core.List.{List, [], ◌∷◌}
 use Rattle.std.proofs.Math.Bool.{true}
 use Rattle.partition.specs.Accepted.{Accepted}
 use Rattle.partition.specs.Partition.{Partition}
-use Rattle.pps_syntax.specs.PartitionSyntax.{PartitionBlock, partition, partition_of}
+use Rattle.pps_syntax.specs.PartitionSyntax.{PartitionBlock, partition_of}
 use Rattle.pps_syntax.specs.Pps.{Pps, partitioned, pic_width, pic_height, pps}
-use Rattle.pps_syntax.specs.Rbsp.{accepted}
 use Rattle.syntax.specs.Elements.{or_else}
 use Rattle.syntax.specs.Facts.{Facts, facts}
 use Rattle.syntax.specs.Lists.{none, not-true}

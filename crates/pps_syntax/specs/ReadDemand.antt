@@ -1,8 +1,7 @@
 -- What is demanded of tiles and slices, of every set that was read: "Every block of an accepted partitioned picture lies in exactly one tile; without deltas no
 -- block lies in two slices; the cover check says whole, gap or double exactly when that is so; the plan reports exactly these slices."
-use Rattle.std.specs.Prelude.{List, []}
+use Rattle.std.specs.Prelude.{List}
 use Rattle.partition.specs.Entry.{asking}
-use Rattle.partition.specs.Grid as grid
 use Rattle.partition.specs.Grid.{Grid}
 use Rattle.partition.specs.Partition.{grid_of, layout, plan_of}
 use Rattle.partition.specs.Slices.{Slice}

@@ -7,7 +7,7 @@ use Rattle.codes.specs.Bytes.{bit_at, bit_list}
 use Rattle.codes.specs.Holds.{Holds, holds-append}
 use Rattle.pps_syntax.specs.Pps.{Pps, pps}
 use Rattle.pps_syntax.specs.Rbsp.{ReadSet, extension_for}
-use Rattle.pps_syntax.specs.TrailingTaken.{extension-last, holds-there}
+use Rattle.pps_syntax.specs.TrailingTaken.{holds-there}
 use Rattle.syntax.specs.Element.{Parsed, Consumed}
 use Rattle.syntax.specs.Syntax.{parse, bits_for, symbols_for, canonical_for}
 

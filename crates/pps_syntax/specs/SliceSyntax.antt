@@ -1,6 +1,6 @@
 -- One turn of the rectangular slice loop (H.266 7.3.2.5): one description, read and written. The tests stand in the order of the Rust's
 -- parse_pps and write_pps; a test of reading alone or of writing alone stands where only one of them makes it.
-use Rattle.std.specs.Prelude.{ℕ, ◌+◌, ◌-◌, ◌<◌, ◌≡◌, List, [], ◌∷◌, Bool, true, false, not, cond, ◌&&◌, ◌||◌, ltb, leb, ℤ, pos, length}
+use Rattle.std.specs.Prelude.{ℕ, ◌+◌, ◌-◌, ◌≡◌, List, [], ◌∷◌, Bool, true, false, not, cond, ◌&&◌, ◌||◌, ltb, leb, ℤ, pos, length}
 use Rattle.std.proofs.Math.Path.{refl}
 use Rattle.std.proofs.Common.{sym, lit<, eqb-true}
 use Rattle.partition.specs.Entry.{Entry, Position, tile_x, tile_y, width_coded, height_coded, inherited_height, split_coded, num_slices_in_tile, default_advance, delta_refused}

@@ -1,7 +1,7 @@
 -- The slice entries of a set fit their tables: no more entries than slices that are not the last, and no more split heights in all than slices.
 use Prim.Native.Nat.{ℕ, suc, ◌+◌, ◌-◌, ◌≤◌}
 use Rattle.std.specs.Prelude.{Bool}
-use mathlib.Core.List.{List, []}
+use mathlib.Core.List.{List}
 use Rattle.std.proofs.Math.ListN.{length}
 use Rattle.partition.specs.Entry.{Position}
 use Rattle.partition.specs.Grid.{Grid}

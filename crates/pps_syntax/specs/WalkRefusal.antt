@@ -3,7 +3,6 @@ use Prim.Native.Nat.{ℕ}
 use Rattle.std.proofs.Common.{SFits}
 use mathlib.Core.List.{List, [], ◌∷◌}
 use Rattle.std.specs.Int.{w32}
-use Rattle.partition.specs.Walk as walks
 use Rattle.partition.specs.Walk.{Walked, refused, placed}
 use Rattle.pps_syntax.specs.SliceSyntax.{RectSlice}
 

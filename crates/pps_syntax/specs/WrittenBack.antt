@@ -1,12 +1,12 @@
 -- The round trip: writing the record of an accepted unit gives exactly the bytes that reading took.
-use Rattle.std.specs.Prelude.{ℕ, zero, suc, ◌+◌, ◌-◌, ◌*◌, ◌/◌, ◌^◌, ◌≤◌, ◌<◌, ◌≡◌, refl, List, [], ◌++◌, length, get_or, take, drop}
+use Rattle.std.specs.Prelude.{ℕ, zero, suc, ◌+◌, ◌*◌, ◌/◌, ◌^◌, ◌≤◌, ◌<◌, ◌≡◌, refl, List, ◌++◌, length, get_or, take, drop}
 use Rattle.std.proofs.Common.{sym, ap, ◌∙◌, arith, take_at, drop_at, drop-cons}
 use Rattle.codes.specs.Bits.{Binary}
 use Rattle.codes.specs.Bytes.{bit-lt, bit_list, bit_list-length, bit_list-append, bit_list-number}
 use Rattle.codes.specs.Holds.{Holds}
 use Rattle.codes.specs.Windows.{byte-bits}
 use Rattle.bit_writer.specs.Packed.{spelled, spelled-binary, pack, aligned, packed}
-use Rattle.pps_syntax.specs.Rbsp.{ReadSet, accepted}
+use Rattle.pps_syntax.specs.Rbsp.{ReadSet}
 use Rattle.pps_syntax.specs.Written.{set_refusal, set_rbsp}
 
 -- every element of a byte string is below 256

@@ -1,5 +1,5 @@
 -- The elements that H.266's syntax tables are made of: u(n), a flag, ue(v), se(v), with a limit, or absent under a condition.
-use Rattle.std.specs.Prelude.{ℕ, [], Bool}
+use Rattle.std.specs.Prelude.{ℕ, Bool}
 use Rattle.std.specs.Bool.{beq}
 use Rattle.syntax.specs.Element.{Element}
 use Rattle.syntax.specs.Elements.{flag, ue, Same, sameℕ, inferred, is_set, one_if, one_set, or_else}

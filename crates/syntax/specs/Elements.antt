@@ -1,5 +1,5 @@
 -- The elements that H.266's syntax tables are made of: u(n), a flag, ue(v), se(v), with a limit, or absent under a condition.
-use Rattle.std.specs.Prelude.{ℕ, zero, suc, ◌+◌, ◌^◌, ◌<◌, ◌≡◌, refl, List, [], ◌∷◌, ◌++◌, Bool, true, false, not, cond, eqb, ltb, ℤ}
+use Rattle.std.specs.Prelude.{ℕ, zero, suc, ◌^◌, ◌<◌, ◌≡◌, refl, List, [], ◌∷◌, ◌++◌, Bool, true, false, not, cond, eqb, ltb, ℤ}
 use Rattle.std.proofs.Common.{sym, ap, ap₂, subst, ◌∙◌, add-zero, arith, eq-eqb, eqb-true, lt-ltb, ltb-true}
 use Rattle.std.specs.Bool.{beq}
 use Rattle.codes.specs.Bits.{to_bits, Binary, binary-to_bits}

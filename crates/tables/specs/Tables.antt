@@ -1,5 +1,5 @@
 -- Laws on lent tables: a table that is blank, one that is filled from the front, one that bytes are laid over.
-use Rattle.std.specs.Prelude.{◌≡◌, List, [], ◌∷◌, ◌++◌, ℕ, zero, suc, ◌+◌, ◌-◌, ◌<◌, ◌≤◌, length, set, replicate, get_or}
+use Rattle.std.specs.Prelude.{◌≡◌, List, [], ◌∷◌, ◌++◌, ℕ, zero, suc, ◌+◌, ◌<◌, ◌≤◌, length, set, replicate, get_or}
 use Rattle.std.proofs.Math.Path.{refl, ap}
 use Rattle.std.proofs.Common.{sym, ◌∙◌, append-nil, zero-add, add-zero, add-suc, suc-add, not-suc-le-zero, le_of_suc-le-suc, add-one, arith, length-append, length-drop, drop_of_length-le}
 use Rattle.std.proofs.Math.ListN.{drop, length-replicate, get_or-eq_default}

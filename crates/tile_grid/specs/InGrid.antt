@@ -1,5 +1,5 @@
 -- The questions by their steps: the tests before the slices' and the grid, then the slices in it.
-use Rattle.std.specs.Prelude.{ℕ, zero, suc, ◌+◌, ◌-◌, ◌/◌, ◌≤◌, ◌<◌, ◌≡◌, Bool, length, take}
+use Rattle.std.specs.Prelude.{ℕ, zero, suc, ◌+◌, ◌/◌, ◌≤◌, ◌<◌, ◌≡◌, Bool, length, take}
 use Rattle.std.proofs.Math.Path.{refl, ap}
 use Rattle.std.proofs.Common.{sym, ◌∙◌, div-le_self, mul-le-mul_right, div-mul-le_self, le_trans, arith, lit<}
 use mathlib.Core.List.{List, [], ◌∷◌, ◌++◌, map}

@@ -13,7 +13,7 @@ use borrow.Author.Tests.{ltb-false}
 use Rattle.partition.specs.Axis.{boundary, boundary_le, span}
 use Rattle.partition.proofs.Axis.{boundary-suc, boundary_mono}
 use Rattle.partition.specs.Entry.{Entry, Position, asking, first_position, tile_x, tile_y, split_coded, split_heights, last_slice_of, next_tile, next_position}
-use Rattle.partition.specs.Grid.{Grid, grid_with, columns, rows, tiles, max_slices_minus1, max_slices}
+use Rattle.partition.specs.Grid.{Grid, grid_with, tiles, max_slices_minus1, max_slices}
 use Rattle.partition.specs.Groups.{Group, stacked, group_slices, plan, stacked-length}
 use Rattle.partition.specs.Placed.{Step, step, End, to-bottom-right, used_by-split, end, Passed, tile_x-lt, tile_y-lt, split_flat, placed_same}
 use Rattle.partition.proofs.Placed.{entry-passed, row-span, entry-slices, some_piece, walk-slices}

@@ -1,7 +1,6 @@
 use mathlib.Core.Path.{sym}
 use native.Mathlib.Omega.{arith}
 use Rattle.codes.specs.Bytes.{bit_in, bit_past}
-use borrow.Author.Rules.{rules}
 use Rattle.bit_reader.proofs.bit_at.Goals as goal
 
 pub returns-then-at-end : goal.returns-then-at-end

@@ -1,9 +1,8 @@
-use Prim.Native.Nat.{◌+◌, ◌-◌, ◌≤◌}
-use mathlib.Core.Path.{◌≡◌, sym, ap, ◌∙◌}
+use Prim.Native.Nat.{◌+◌}
+use mathlib.Core.Path.{sym, ap, ◌∙◌}
 use native.Mathlib.Omega.{arith}
 use Rattle.codes.specs.Bytes.{bits_at, bit-lt, bits_none, bits-step}
 use Rattle.bit_reader.proofs.Words.{bits-room}
-use borrow.Author.Rules.{rules}
 use Rattle.bit_reader.proofs.bits_from.Goals as goal
 
 pub loop-i-init : goal.loop-i-init

@@ -1,9 +1,6 @@
-use Prim.Native.Nat.{◌+◌, ◌-◌, ◌≤◌}
-use mathlib.Core.Path.{◌≡◌, sym, ap, ◌∙◌}
-use native.Mathlib.Omega.{arith}
-use Rattle.codes.specs.Bytes.{bits_at, bit-lt, bits_none, bits-step}
-use Rattle.bit_reader.proofs.Words.{bits-room}
-use borrow.Author.Rules.{rules}
+use Prim.Native.Nat.{◌-◌, ◌≤◌}
+use mathlib.Core.Path.{◌≡◌}
+use Rattle.codes.specs.Bytes.{bits_at}
 use Rattle.bit_reader.proofs.bits_from.Given as goal
 
 abbrev pub invariant-loop-i : goal.invariant-loop-i

@@ -1,10 +1,9 @@
 -- `seen` is the number of 1 bits from `p` on, at most one.
-use Prim.Native.Nat.{◌-◌, ◌≤◌, ◌<◌}
+use Prim.Native.Nat.{◌-◌, ◌<◌}
 use mathlib.Core.Path.{◌≡◌, sym}
 use native.Mathlib.Omega.{arith}
 use Rattle.codes.specs.Bytes.{bit_count, bit-lt}
 use Rattle.bit_reader.specs.Extension.{ones, ones_none, ones-back, extension-none, extension-ends}
-use borrow.Author.Rules.{rules}
 use Rattle.bit_reader.proofs.extension_bits.Goals as goal
 
 pub returns-then-at-end : goal.returns-then-at-end

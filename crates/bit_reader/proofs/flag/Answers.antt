@@ -1,6 +1,5 @@
 use native.Mathlib.Omega.{arith}
 use Rattle.bit_reader.specs.Laws.{flag_stays, flag_past, flag-made}
-use borrow.Author.Rules.{rules}
 use Rattle.bit_reader.proofs.flag.Goals as goal
 
 pub returns-then-c-ne0 : goal.returns-then-c-ne0

@@ -3,7 +3,6 @@ use mathlib.Core.Bool.{not}
 use mathlib.Core.Path.{ap, ◌∙◌}
 use lib.Dec.{eqb}
 use Rattle.bit_reader.specs.Extension.{extension-more}
-use borrow.Author.Rules.{rules}
 use Rattle.bit_reader.proofs.more_rbsp_data.Goals as goal
 
 pub returns : goal.returns

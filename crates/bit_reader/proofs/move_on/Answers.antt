@@ -2,7 +2,6 @@ use mathlib.Core.Path.{sym}
 use native.Mathlib.Omega.{arith}
 use Rattle.bit_reader.specs.Laws.{onward_past, onward-is}
 use Rattle.bit_reader.specs.Reading.{onward}
-use borrow.Author.Rules.{rules}
 use Rattle.bit_reader.proofs.move_on.Goals as goal
 
 pub returns-then-at-end : goal.returns-then-at-end

@@ -1,5 +1,4 @@
 use Rattle.bit_reader.proofs.Words.{shift_one}
-use borrow.Author.Rules.{rules}
 use Rattle.bit_reader.proofs.pow2.Goals as goal
 
 pub returns : goal.returns

@@ -1,7 +1,6 @@
 use mathlib.Core.Path.{sym, ◌∙◌}
 use native.Mathlib.Omega.{arith}
 use Rattle.bit_reader.specs.Laws.{trailing_stays, trailing-end, trailing_stop, trailing_align, trailing-made}
-use borrow.Author.Rules.{rules}
 use Rattle.bit_reader.proofs.rbsp_trailing_bits.Goals as goal
 
 pub returns-then-c-ne0 : goal.returns-then-c-ne0

@@ -5,7 +5,6 @@ use mir.Facts.{to_z_pos, to_z-of_z}
 use mir.Syntax.{w32}
 use Rattle.codes.specs.ExpGolomb.{signed_of}
 use Rattle.bit_reader.proofs.Words.{neg_is, neg_fits}
-use borrow.Author.Rules.{rules}
 use Rattle.bit_reader.proofs.signed_of.Goals as goal
 
 pub returns-then-k-eq1 : goal.returns-then-k-eq1

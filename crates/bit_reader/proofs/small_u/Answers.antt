@@ -3,7 +3,6 @@ use mathlib.Core.Path.{◌≡◌, ap, ◌∙◌}
 use native.Mathlib.Omega.{arith}
 use Rattle.bit_reader.specs.Reading.{u_read, byte_read}
 use Rattle.bit_reader.specs.Laws.{small-made}
-use borrow.Author.Rules.{rules}
 use Rattle.bit_reader.proofs.small_u.Goals as goal
 
 pub returns : goal.returns

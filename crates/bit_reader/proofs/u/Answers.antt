@@ -3,7 +3,6 @@ use native.Mathlib.Omega.{arith}
 use Rattle.codes.specs.Bytes.{bits_at}
 use Rattle.bit_reader.specs.Reading.{onward}
 use Rattle.bit_reader.specs.Laws.{u_stays, u_past, u-made}
-use borrow.Author.Rules.{rules}
 use Rattle.bit_reader.proofs.u.Goals as goal
 
 pub returns-then-c-ne0 : goal.returns-then-c-ne0

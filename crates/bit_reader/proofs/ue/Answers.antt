@@ -5,7 +5,6 @@ use native.Mathlib.Omega.{arith}
 use lib.Pow.{pow_pos, pow_mono}
 use Rattle.codes.specs.Bytes.{bits-lt}
 use Rattle.bit_reader.specs.Laws.{ue-is, ue_stays, ue_past, ue-refused, ue-made}
-use borrow.Author.Rules.{rules}
 use Rattle.bit_reader.proofs.ue.Goals as goal
 
 pub returns-then-c-ne0 : goal.returns-then-c-ne0

@@ -1,10 +1,8 @@
-use Prim.Native.Nat.{◌+◌, ◌-◌, ◌≤◌}
-use mathlib.Core.Path.{◌≡◌, sym, ◌∙◌}
+use Prim.Native.Nat.{◌+◌, ◌-◌}
+use mathlib.Core.Path.{sym, ◌∙◌}
 use native.Mathlib.Nat.{zero-add, add-zero}
 use native.Mathlib.Omega.{arith}
-use Rattle.bit_reader.specs.Reading.{zeros_at}
 use Rattle.bit_reader.specs.Laws.{stops_past, stops-one, stops-not, zeros-none, zeros-out, zeros-count}
-use borrow.Author.Rules.{rules}
 use Rattle.bit_reader.proofs.zeros_from.Goals as goal
 
 pub loop-k-init : goal.loop-k-init

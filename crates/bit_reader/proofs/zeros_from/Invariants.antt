@@ -1,10 +1,6 @@
 use Prim.Native.Nat.{◌+◌, ◌-◌, ◌≤◌}
-use mathlib.Core.Path.{◌≡◌, sym, ◌∙◌}
-use native.Mathlib.Nat.{zero-add, add-zero}
-use native.Mathlib.Omega.{arith}
+use mathlib.Core.Path.{◌≡◌}
 use Rattle.bit_reader.specs.Reading.{zeros_at}
-use Rattle.bit_reader.specs.Laws.{stops_past, stops-one, stops-not, zeros-none, zeros-out, zeros-count}
-use borrow.Author.Rules.{rules}
 use Rattle.bit_reader.proofs.zeros_from.Given as goal
 
 abbrev pub invariant-loop-k : goal.invariant-loop-k

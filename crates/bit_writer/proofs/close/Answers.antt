@@ -1,4 +1,3 @@
-use borrow.Author.Rules.{rules}
 use Rattle.bit_writer.proofs.Coding.{closed-made}
 use Rattle.bit_writer.proofs.close.Goals as goal
 

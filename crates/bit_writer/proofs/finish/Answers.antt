@@ -1,4 +1,3 @@
-use borrow.Author.Rules.{rules}
 use borrow.Author.Tests.{not-true, not-false}
 use Rattle.bit_writer.proofs.Steps.{finish_plain, finish-none, finish_three}
 use Rattle.bit_writer.proofs.finish.Goals as goal

@@ -1,5 +1,4 @@
 use mathlib.Core.Path.{◌∙◌}
-use borrow.Author.Rules.{rules}
 use Rattle.bit_writer.proofs.Steps.{put_open, put_whole}
 use Rattle.bit_writer.proofs.put_bit.Goals as goal
 

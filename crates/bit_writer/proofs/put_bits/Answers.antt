@@ -1,4 +1,3 @@
-use borrow.Author.Rules.{rules}
 use Rattle.bit_writer.proofs.Coding.{bits-made}
 use Rattle.bit_writer.proofs.put_bits.Goals as goal
 

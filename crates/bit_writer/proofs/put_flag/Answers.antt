@@ -1,4 +1,3 @@
-use borrow.Author.Rules.{rules}
 use Rattle.bit_writer.proofs.Coding.{flag-made}
 use Rattle.bit_writer.proofs.put_flag.Goals as goal
 

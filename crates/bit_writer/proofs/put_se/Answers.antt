@@ -1,6 +1,5 @@
 -- A signed argument reaches a callee through its 32 bits and back, hence `to_z-of_z`.
 use mathlib.Core.Path.{ap, ◌∙◌}
-use borrow.Author.Rules.{rules}
 use mir.Facts.{to_z-of_z}
 use Rattle.codes.specs.ExpGolomb.{code_num}
 use Rattle.bit_writer.proofs.Coding.{signed-made}

@@ -1,4 +1,3 @@
-use borrow.Author.Rules.{rules}
 use Rattle.bit_writer.proofs.Coding.{trailing-made}
 use Rattle.bit_writer.proofs.put_trailing.Goals as goal
 

@@ -1,5 +1,4 @@
 use native.Mathlib.Omega.{arith}
-use borrow.Author.Rules.{rules}
 use Rattle.code_length.proofs.Rule.{zeros_le, by-zeros}
 use Rattle.code_length.proofs.by_rule.Goals as goal
 

@@ -1,4 +1,3 @@
-use borrow.Author.Rules.{rules}
 use Rattle.partition.specs.Grid.{max_tile_columns, max_tiles}
 use Rattle.tile_sizes.specs.Padded.{filled-table}
 use Rattle.grid_sizes.proofs.Fill.{grid-made}

@@ -1,5 +1,4 @@
 -- Each way out of `new` is a law over plain numbers; the answers of the three parts of the list are handed over.
-use borrow.Author.Rules.{rules}
 use mathlib.Core.Path.{sym, ◌∙◌}
 use native.Mathlib.Omega.{arith}
 use Rattle.grid_sizes.proofs.GridChecks.{refused_9, refused-explicit, refused-columns, refused-rows, some-column, columns-fit, rows_fit, accepted}

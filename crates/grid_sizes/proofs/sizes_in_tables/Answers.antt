@@ -1,5 +1,4 @@
 use mathlib.Core.Path.{◌∙◌}
-use borrow.Author.Rules.{rules}
 use Rattle.grid_sizes.specs.Fronts.{take-most, front_length}
 use Rattle.grid_sizes.proofs.sizes_in_tables.Goals as goal
 

@@ -1,6 +1,5 @@
 use native.Mathlib.Omega.{arith}
 use Rattle.h266.specs.Header.{header-none, header_made}
-use borrow.Author.Rules.{rules}
 use Rattle.h266.proofs.parse_nal_header.Goals as goal
 
 pub returns-then-nal-lt2 : goal.returns-then-nal-lt2

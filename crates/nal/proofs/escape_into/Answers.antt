@@ -1,11 +1,9 @@
 -- What is still to come of the escaped bytes, put behind those that are there, is the whole.
-use Prim.Native.Nat.{◌≤◌, ◌-◌}
 use native.Mathlib.Omega.{arith}
 use mathlib.Core.Path.{refl, sym, ◌∙◌}
-use lib.ListN.{length, drop, length-set}
-use borrow.Author.Rules.{rules}
-use Rattle.nal.specs.Escape.{escape_from, escape}
-use Rattle.nal.proofs.Putting.{Putting, put_start, put_byte, put_two, put-room, put-done}
+use lib.ListN.{length-set}
+use Rattle.nal.specs.Escape.{escape}
+use Rattle.nal.proofs.Putting.{put_start, put_byte, put_two, put-room, put-done}
 use Rattle.nal.proofs.Steps.{escape_plain, escape-escaped, escape-over, escape-end-none, escape-end_three}
 use Rattle.nal.proofs.escape_into.Goals as goal
 
@@ -56,10 +54,10 @@ pub shape_of-out-then-z-ge2 : goal.shape_of-out-then-z-ge2
 shape_of-out-then-z-ge2 c = (put_byte c.loop-i.invariant.1 (escape-end_three _ _ _ c.loop-i.invariant.0 c.loop-i-test.false c.if-z-ge2.true)).same
 
 pub returns-then-z-ge2 : goal.returns-then-z-ge2
-returns-then-z-ge2 c =  record { value = (put-done (put_byte c.loop-i.invariant.1 (escape-end_three _ _ _ c.loop-i.invariant.0 c.loop-i-test.false c.if-z-ge2.true)) refl c.requires).0; out_after = (put-done (put_byte c.loop-i.invariant.1 (escape-end_three _ _ _ c.loop-i.invariant.0 c.loop-i-test.false c.if-z-ge2.true)) refl c.requires).1 }
+returns-then-z-ge2 c = record { value = (put-done (put_byte c.loop-i.invariant.1 (escape-end_three _ _ _ c.loop-i.invariant.0 c.loop-i-test.false c.if-z-ge2.true)) refl c.requires).0; out_after = (put-done (put_byte c.loop-i.invariant.1 (escape-end_three _ _ _ c.loop-i.invariant.0 c.loop-i-test.false c.if-z-ge2.true)) refl c.requires).1 }
 
 pub shape_of-out : goal.shape_of-out
 shape_of-out c = c.loop-i.invariant.1.same
 
 pub returns : goal.returns
-returns c =  record { value = (put-done c.loop-i.invariant.1 (escape-end-none _ _ _ c.loop-i.invariant.0 c.loop-i-test.false c.if-z-ge2.false) c.requires).0; out_after = (put-done c.loop-i.invariant.1 (escape-end-none _ _ _ c.loop-i.invariant.0 c.loop-i-test.false c.if-z-ge2.false) c.requires).1 }
+returns c = record { value = (put-done c.loop-i.invariant.1 (escape-end-none _ _ _ c.loop-i.invariant.0 c.loop-i-test.false c.if-z-ge2.false) c.requires).0; out_after = (put-done c.loop-i.invariant.1 (escape-end-none _ _ _ c.loop-i.invariant.0 c.loop-i-test.false c.if-z-ge2.false) c.requires).1 }

@@ -1,12 +1,8 @@
 -- What is still to come of the escaped bytes, put behind those that are there, is the whole.
 use Prim.Native.Nat.{◌≤◌, ◌-◌}
-use native.Mathlib.Omega.{arith}
-use mathlib.Core.Path.{refl, sym, ◌∙◌}
-use lib.ListN.{length, drop, length-set}
-use borrow.Author.Rules.{rules}
+use lib.ListN.{length, drop}
 use Rattle.nal.specs.Escape.{escape_from, escape}
-use Rattle.nal.proofs.Putting.{Putting, put_start, put_byte, put_two, put-room, put-done}
-use Rattle.nal.proofs.Steps.{escape_plain, escape-escaped, escape-over, escape-end-none, escape-end_three}
+use Rattle.nal.proofs.Putting.{Putting}
 use Rattle.nal.proofs.escape_into.Given as goal
 
 abbrev pub invariant-loop-i : goal.invariant-loop-i

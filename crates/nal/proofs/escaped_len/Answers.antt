@@ -1,12 +1,9 @@
 -- The bytes counted and the length of those still to come make the whole length.
-use Prim.Native.Nat.{◌≤◌, ◌-◌}
 use native.Mathlib.Omega.{arith}
 use mathlib.Core.Path.{refl, sym, ◌∙◌}
-use lib.ListN.{length, drop}
-use borrow.Author.Rules.{rules}
-use Rattle.nal.specs.Escape.{escape_from, escape}
+use Rattle.nal.specs.Escape.{escape}
 use Rattle.nal.specs.Lengths.{escape-length}
-use Rattle.nal.proofs.Putting.{Counting, count_start, count-byte, count-two, count-done}
+use Rattle.nal.proofs.Putting.{count_start, count-byte, count-two, count-done}
 use Rattle.nal.proofs.Steps.{escape_plain, escape-escaped, escape-over, escape-end-none, escape-end_three}
 use Rattle.nal.proofs.escaped_len.Goals as goal
 

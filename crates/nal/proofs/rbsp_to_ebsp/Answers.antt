@@ -2,8 +2,7 @@ use Prim.Native.Nat.{◌<◌}
 use native.Mathlib.Omega.{arith}
 use mathlib.Core.Path.{sym, ap, ◌∙◌}
 use lib.ListN.{length}
-use borrow.Author.Rules.{rules}
-use borrow.Author.Tests.{leb-true, leb-false, not-true, not-false}
+use borrow.Author.Tests.{leb-true, leb-false}
 use Rattle.nal.specs.declared.ByteCount.TheVariants.{Bytes}
 use Rattle.nal.specs.Answers.{escape-long, escape-short, escape-done}
 use Rattle.nal.proofs.rbsp_to_ebsp.Goals as goal

@@ -1,5 +1,4 @@
 use native.Mathlib.Omega.{arith}
-use borrow.Author.Rules.{rules}
 use borrow.Author.Tests.{eq-eqb, ne_eqb}
 use Rattle.nal.specs.Escape.{zero_run}
 use Rattle.nal.proofs.zero_run.Goals as goal

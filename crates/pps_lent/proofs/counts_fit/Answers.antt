@@ -1,4 +1,3 @@
-use borrow.Author.Rules.{rules}
 use Rattle.pps_lent.specs.Tables.{counts-absent, counts-present}
 use Rattle.pps_lent.proofs.counts_fit.Goals as goal
 

@@ -1,6 +1,4 @@
-use Prim.Native.Nat.{◌-◌}
-use borrow.Author.Rules.{rules}
-use Rattle.pps_lent.specs.Tables.{split_tables, Left, left_start, left_step, left_past, left_end}
+use Rattle.pps_lent.specs.Tables.{left_start, left_step, left_past, left_end}
 use Rattle.pps_lent.proofs.split_total_fits.Goals as goal
 
 pub loop-i-init : goal.loop-i-init

@@ -1,6 +1,5 @@
 use Prim.Native.Nat.{◌-◌}
-use borrow.Author.Rules.{rules}
-use Rattle.pps_lent.specs.Tables.{split_tables, Left, left_start, left_step, left_past, left_end}
+use Rattle.pps_lent.specs.Tables.{split_tables, Left}
 use Rattle.pps_lent.proofs.split_total_fits.Given as goal
 
 abbrev pub invariant-loop-i : goal.invariant-loop-i

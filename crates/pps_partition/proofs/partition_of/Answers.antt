@@ -2,7 +2,6 @@ use borrow.Author.Tests.{eq-eqb, ne_eqb}
 use Rattle.pps_record.specs.Absent.{no_partition}
 use Rattle.pps_syntax.specs.Record.{partition_record}
 use Rattle.pps_partition.specs.PartitionAnswer.{partition_numbers, partition_of}
-use borrow.Author.Rules.{rules}
 use Rattle.pps_partition.proofs.partition_of.Goals as goal
 
 pub returns-then-next-ne0 : goal.returns-then-next-ne0

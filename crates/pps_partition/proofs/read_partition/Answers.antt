@@ -9,7 +9,6 @@ use Rattle.pps_syntax.specs.Record.{partition_record}
 use Rattle.pps_partition.specs.TilesStored.{stored-lengths, rows-within}
 use Rattle.pps_partition.specs.Whole.{partition-made, partition-stuck, grid-small, spread_ready, spread_length, rows_few, grid_has}
 use Rattle.pps_partition.proofs.Fronts.{table-long}
-use borrow.Author.Rules.{rules}
 use Rattle.pps_partition.proofs.read_partition.Goals as goal
 
 pub copy_front-requires : goal.copy_front-requires
@@ -17,7 +16,7 @@ copy_front-requires c = rows-within _ _ _ _ c.read_tile_sizes-sizes.ensures tabl
 
 pub returns-then-next-ne0 : goal.returns-then-next-ne0
 unfolding partition_record no_partition
-returns-then-next-ne0 c =  record { answer = (partition-stuck _ _ _ _ c.read_tile_sizes-sizes.ensures table-long c.test_axes-next.ensures _ _ (slice_tables c.args.entries.now c.args.split_heights.now) _ c.copy_front.ensures c.if-next-ne0.true c.absent.ensures).0; columns = (partition-stuck _ _ _ _ c.read_tile_sizes-sizes.ensures table-long c.test_axes-next.ensures _ _ (slice_tables c.args.entries.now c.args.split_heights.now) _ c.copy_front.ensures c.if-next-ne0.true c.absent.ensures).1.0; rows = (partition-stuck _ _ _ _ c.read_tile_sizes-sizes.ensures table-long c.test_axes-next.ensures _ _ (slice_tables c.args.entries.now c.args.split_heights.now) _ c.copy_front.ensures c.if-next-ne0.true c.absent.ensures).1.1.0; slices = (partition-stuck _ _ _ _ c.read_tile_sizes-sizes.ensures table-long c.test_axes-next.ensures _ _ (slice_tables c.args.entries.now c.args.split_heights.now) _ c.copy_front.ensures c.if-next-ne0.true c.absent.ensures).1.1.1 }
+returns-then-next-ne0 c = record { answer = (partition-stuck _ _ _ _ c.read_tile_sizes-sizes.ensures table-long c.test_axes-next.ensures _ _ (slice_tables c.args.entries.now c.args.split_heights.now) _ c.copy_front.ensures c.if-next-ne0.true c.absent.ensures).0; columns = (partition-stuck _ _ _ _ c.read_tile_sizes-sizes.ensures table-long c.test_axes-next.ensures _ _ (slice_tables c.args.entries.now c.args.split_heights.now) _ c.copy_front.ensures c.if-next-ne0.true c.absent.ensures).1.0; rows = (partition-stuck _ _ _ _ c.read_tile_sizes-sizes.ensures table-long c.test_axes-next.ensures _ _ (slice_tables c.args.entries.now c.args.split_heights.now) _ c.copy_front.ensures c.if-next-ne0.true c.absent.ensures).1.1.0; slices = (partition-stuck _ _ _ _ c.read_tile_sizes-sizes.ensures table-long c.test_axes-next.ensures _ _ (slice_tables c.args.entries.now c.args.split_heights.now) _ c.copy_front.ensures c.if-next-ne0.true c.absent.ensures).1.1.1 }
 
 pub spread-requires : goal.spread-requires
 spread-requires c = spread_ready _ _ _ _ c.read_tile_sizes-sizes.ensures table-long c.test_axes-next.ensures c.if-next-ne0.false
@@ -41,8 +40,13 @@ pub shape_of-tile_row_heights : goal.shape_of-tile_row_heights
 shape_of-tile_row_heights c = c.copy_front.auto.to
 
 pub returns : goal.returns
-returns c =  record { answer = (partition-made _ _ _ _ c.read_tile_sizes-sizes.ensures table-long c.test_axes-next.ensures _ _ _ _ c.read_slicing-slicing.result _ c.copy_front.ensures
-    (c.read_slicing-slicing.ensures _ (grid_has _ _ _ _ c.read_tile_sizes-sizes.ensures table-long c.test_axes-next.ensures c.if-next-ne0.false c.spread.ensures)) c.partition_of.ensures).0; columns = (partition-made _ _ _ _ c.read_tile_sizes-sizes.ensures table-long c.test_axes-next.ensures _ _ _ _ c.read_slicing-slicing.result _ c.copy_front.ensures
-    (c.read_slicing-slicing.ensures _ (grid_has _ _ _ _ c.read_tile_sizes-sizes.ensures table-long c.test_axes-next.ensures c.if-next-ne0.false c.spread.ensures)) c.partition_of.ensures).1.0; rows = (partition-made _ _ _ _ c.read_tile_sizes-sizes.ensures table-long c.test_axes-next.ensures _ _ _ _ c.read_slicing-slicing.result _ c.copy_front.ensures
-    (c.read_slicing-slicing.ensures _ (grid_has _ _ _ _ c.read_tile_sizes-sizes.ensures table-long c.test_axes-next.ensures c.if-next-ne0.false c.spread.ensures)) c.partition_of.ensures).1.1.0; slices = (partition-made _ _ _ _ c.read_tile_sizes-sizes.ensures table-long c.test_axes-next.ensures _ _ _ _ c.read_slicing-slicing.result _ c.copy_front.ensures
-    (c.read_slicing-slicing.ensures _ (grid_has _ _ _ _ c.read_tile_sizes-sizes.ensures table-long c.test_axes-next.ensures c.if-next-ne0.false c.spread.ensures)) c.partition_of.ensures).1.1.1 }
+returns c = record {
+  answer = (partition-made _ _ _ _ c.read_tile_sizes-sizes.ensures table-long c.test_axes-next.ensures _ _ _ _ c.read_slicing-slicing.result _ c.copy_front.ensures
+      (c.read_slicing-slicing.ensures _ (grid_has _ _ _ _ c.read_tile_sizes-sizes.ensures table-long c.test_axes-next.ensures c.if-next-ne0.false c.spread.ensures)) c.partition_of.ensures).0;
+  columns = (partition-made _ _ _ _ c.read_tile_sizes-sizes.ensures table-long c.test_axes-next.ensures _ _ _ _ c.read_slicing-slicing.result _ c.copy_front.ensures
+      (c.read_slicing-slicing.ensures _ (grid_has _ _ _ _ c.read_tile_sizes-sizes.ensures table-long c.test_axes-next.ensures c.if-next-ne0.false c.spread.ensures)) c.partition_of.ensures).1.0;
+  rows = (partition-made _ _ _ _ c.read_tile_sizes-sizes.ensures table-long c.test_axes-next.ensures _ _ _ _ c.read_slicing-slicing.result _ c.copy_front.ensures
+      (c.read_slicing-slicing.ensures _ (grid_has _ _ _ _ c.read_tile_sizes-sizes.ensures table-long c.test_axes-next.ensures c.if-next-ne0.false c.spread.ensures)) c.partition_of.ensures).1.1.0;
+  slices = (partition-made _ _ _ _ c.read_tile_sizes-sizes.ensures table-long c.test_axes-next.ensures _ _ _ _ c.read_slicing-slicing.result _ c.copy_front.ensures
+      (c.read_slicing-slicing.ensures _ (grid_has _ _ _ _ c.read_tile_sizes-sizes.ensures table-long c.test_axes-next.ensures c.if-next-ne0.false c.spread.ensures)) c.partition_of.ensures).1.1.1;
+}

@@ -5,7 +5,6 @@ use Rattle.syntax.specs.Syntax.{parse}
 use Rattle.pps_syntax.specs.Chroma.{chroma}
 use Rattle.pps_syntax.specs.Pps.{back}
 use Rattle.pps_parts.specs.Parts.{back-made, behind-chroma}
-use borrow.Author.Rules.{rules}
 use Rattle.pps_parts.proofs.read_back.Goals as goal
 
 pub returns : goal.returns

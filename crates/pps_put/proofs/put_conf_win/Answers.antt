@@ -2,7 +2,6 @@ use mathlib.Core.Path.{◌∙◌}
 use Rattle.pps_syntax.specs.Head.{conf_win}
 use Rattle.syntax.specs.WriteSteps.{writes-done, writes}
 use Rattle.pps_put.specs.Steps.{ue_if_lem}
-use borrow.Author.Rules.{rules}
 use Rattle.pps_put.proofs.put_conf_win.Goals as goal
 
 pub returns : goal.returns

@@ -2,7 +2,6 @@ use mathlib.Core.Path.{◌∙◌}
 use Rattle.pps_syntax.specs.Head.{head}
 use Rattle.syntax.specs.WriteSteps.{writes-done, writes, writes-test, writes_past}
 use Rattle.pps_put.specs.Steps.{tested}
-use borrow.Author.Rules.{rules}
 use Rattle.pps_put.proofs.put_head.Goals as goal
 
 pub shape_of-out : goal.shape_of-out

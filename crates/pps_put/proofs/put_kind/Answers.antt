@@ -1,7 +1,6 @@
 use mathlib.Core.Path.{◌∙◌}
 use Rattle.pps_syntax.specs.Head.{kind}
 use Rattle.syntax.specs.WriteSteps.{writes-done, writes}
-use borrow.Author.Rules.{rules}
 use Rattle.pps_put.proofs.put_kind.Goals as goal
 
 pub returns : goal.returns

@@ -1,4 +1,3 @@
-use borrow.Author.Rules.{rules}
 use mathlib.Core.Path.{◌∙◌}
 use Rattle.pps_put_partition.specs.Rest.{block-stops, block_goes}
 use Rattle.pps_put_partition.proofs.put_block.Goals as goal

@@ -3,7 +3,6 @@ use mathlib.Core.List.{List}
 use lib.ListN.{length}
 use Prim.Native.Nat.{ℕ}
 use Rattle.pps_read.specs.Whole.{refused-before, passed, front-is, front-inside, read-after}
-use borrow.Author.Rules.{rules}
 use Rattle.pps_read.proofs.parse_pps.Goals as goal
 
 pub returns-then-before-ne0 : goal.returns-then-before-ne0

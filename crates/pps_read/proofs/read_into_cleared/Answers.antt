@@ -1,6 +1,5 @@
 use mathlib.Core.Path.{◌∙◌}
 use Rattle.pps_read.specs.Cleared.{cleared-read}
-use borrow.Author.Rules.{rules}
 use Rattle.pps_read.proofs.read_into_cleared.Goals as goal
 
 pub shape_of-subpic_ids : goal.shape_of-subpic_ids
@@ -20,18 +19,21 @@ shape_of-split_heights c = c.clear_unless.auto.split_heights ∙ c.read_rbsp-rea
 
 pub returns : goal.returns
 returns c = let k = c.read_rbsp-read.auto in
-    let z = c.clear_tables.auto in record { answer = (cleared-read _ _ _ _ _ _ c.clear_tables.ensures (c.read_rbsp-read.ensures.answer, c.read_rbsp-read.ensures.tables) c.is_accepted.ensures c.clear_unless.ensures c.requires
-    (record {
-      ids = k.subpic_ids ∙ z.subpic_ids;
-      columns = k.tile_column_widths ∙ z.tile_column_widths;
-      rows = k.tile_row_heights ∙ z.tile_row_heights;
-      entries = k.entries ∙ z.entries;
-      split_heights = k.split_heights ∙ z.split_heights;
-    })).0; tables = (cleared-read _ _ _ _ _ _ c.clear_tables.ensures (c.read_rbsp-read.ensures.answer, c.read_rbsp-read.ensures.tables) c.is_accepted.ensures c.clear_unless.ensures c.requires
-    (record {
-      ids = k.subpic_ids ∙ z.subpic_ids;
-      columns = k.tile_column_widths ∙ z.tile_column_widths;
-      rows = k.tile_row_heights ∙ z.tile_row_heights;
-      entries = k.entries ∙ z.entries;
-      split_heights = k.split_heights ∙ z.split_heights;
-    })).1 }
+    let z = c.clear_tables.auto in record {
+      answer = (cleared-read _ _ _ _ _ _ c.clear_tables.ensures (c.read_rbsp-read.ensures.answer, c.read_rbsp-read.ensures.tables) c.is_accepted.ensures c.clear_unless.ensures c.requires
+          (record {
+            ids = k.subpic_ids ∙ z.subpic_ids;
+            columns = k.tile_column_widths ∙ z.tile_column_widths;
+            rows = k.tile_row_heights ∙ z.tile_row_heights;
+            entries = k.entries ∙ z.entries;
+            split_heights = k.split_heights ∙ z.split_heights;
+          })).0;
+      tables = (cleared-read _ _ _ _ _ _ c.clear_tables.ensures (c.read_rbsp-read.ensures.answer, c.read_rbsp-read.ensures.tables) c.is_accepted.ensures c.clear_unless.ensures c.requires
+          (record {
+            ids = k.subpic_ids ∙ z.subpic_ids;
+            columns = k.tile_column_widths ∙ z.tile_column_widths;
+            rows = k.tile_row_heights ∙ z.tile_row_heights;
+            entries = k.entries ∙ z.entries;
+            split_heights = k.split_heights ∙ z.split_heights;
+          })).1;
+    }

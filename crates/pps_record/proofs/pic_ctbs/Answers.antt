@@ -3,7 +3,6 @@ use mathlib.Core.Path.{◌≡◌, ap, ◌∙◌}
 use native.Mathlib.Omega.{arith}
 use Rattle.partition.specs.Partition.{in_ctbs}
 use Rattle.pps_record.specs.Ctbs.{ctbs_unpartitioned, ctbs_refused, ctbs_partitioned}
-use borrow.Author.Rules.{rules}
 use Rattle.pps_record.proofs.pic_ctbs.Goals as goal
 
 pub returns-then-partition_present-eq0 : goal.returns-then-partition_present-eq0

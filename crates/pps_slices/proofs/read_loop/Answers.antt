@@ -1,12 +1,8 @@
 -- The invariant is `Held`, for each grid that the loop may go over; each need cites one of its laws.
-use Prim.Native.Nat.{◌-◌}
 use mathlib.Core.Path.{refl}
 use native.Mathlib.Omega.{arith}
-use Rattle.partition.specs.Grid.{Grid}
-use Rattle.slice_loop.specs.Loop.{LoopOver}
-use Rattle.pps_syntax.specs.SliceTables.{slice_tables}
 use Rattle.pps_slices.specs.Grids.{some-over}
-use Rattle.pps_slices.specs.Held.{Held, held-begins, held-ends, held-stops, held_more, held_small, held-lengths, entry_length}
+use Rattle.pps_slices.specs.Held.{held-begins, held-ends, held-stops, held_more, held_small, held-lengths, entry_length}
 use Rattle.pps_slices.proofs.read_loop.Goals as goal
 
 pub loop-slice-init : goal.loop-slice-init

@@ -1,12 +1,9 @@
 -- The invariant is `Held`, for each grid that the loop may go over; each need cites one of its laws.
 use Prim.Native.Nat.{◌-◌}
-use mathlib.Core.Path.{refl}
-use native.Mathlib.Omega.{arith}
 use Rattle.partition.specs.Grid.{Grid}
 use Rattle.slice_loop.specs.Loop.{LoopOver}
 use Rattle.pps_syntax.specs.SliceTables.{slice_tables}
-use Rattle.pps_slices.specs.Grids.{some-over}
-use Rattle.pps_slices.specs.Held.{Held, held-begins, held-ends, held-stops, held_more, held_small, held-lengths, entry_length}
+use Rattle.pps_slices.specs.Held.{Held}
 use Rattle.pps_slices.proofs.read_loop.Given as goal
 
 abbrev pub invariant-loop-slice : goal.invariant-loop-slice

@@ -1,6 +1,6 @@
 -- By the sign: `negative` and `positive` say what the 32 bits of an i32 stand for.
 use mathlib.Core.Path.{sym, ap, subst, ◌∙◌}
-use Prim.Native.Nat.{ℕ, ◌-◌}
+use Prim.Native.Nat.{◌-◌}
 use native.Mathlib.Omega.{arith}
 use lib.Dec.{T}
 use lib.IntN.{ℤ, nat_abs}

@@ -1,8 +1,5 @@
-use Prim.Native.Nat.{◌-◌}
 use native.Mathlib.Omega.{arith}
-use lib.ListN.{length}
-use borrow.Author.Rules.{rules}
-use Rattle.tables.proofs.Clearing.{Clearing, begins, goes_on, ends}
+use Rattle.tables.proofs.Clearing.{begins, goes_on, ends}
 use Rattle.pps_tables.specs.Rows.{no_entry}
 use Rattle.pps_tables.proofs.clear_rows.Goals as goal
 

@@ -4,7 +4,6 @@ use lib.IntN.{ℤ}
 use mir.Facts.{to_z-of_z}
 use mir.Syntax.{w32}
 use mir.Val.{SFits, to_z, of_z}
-use borrow.Author.Rules.{rules}
 use Rattle.pps_tables.proofs.DeltaBits.{delta-positive, delta-negative}
 use Rattle.pps_tables.proofs.delta_of_bits.Goals as goal
 

@@ -1,6 +1,5 @@
 use mathlib.Core.Path.{sym}
 use lib.Seq.{set_out}
-use borrow.Author.Rules.{rules}
 use Rattle.pps_tables.proofs.put_row.Goals as goal
 
 pub returns-then-entries-k : goal.returns-then-entries-k

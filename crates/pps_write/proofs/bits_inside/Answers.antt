@@ -1,4 +1,3 @@
-use borrow.Author.Rules.{rules}
 use Rattle.pps_write.specs.Runs.{bits_inside}
 use Rattle.pps_write.proofs.bits_inside.Goals as goal
 

@@ -7,7 +7,6 @@ use Rattle.pps_syntax.specs.FromRecord.{lent}
 use Rattle.pps_syntax.specs.SliceTables.{slice_tables}
 use Rattle.tables.specs.Tables.{over}
 use Rattle.pps_write.specs.Runs.{own_refused, own_again, own_fits, own_copied, over-is}
-use borrow.Author.Rules.{rules}
 use Rattle.pps_write.proofs.write_counted.Goals as goal
 
 pub slice_bounds-copy_front-end : goal.slice_bounds-copy_front-end

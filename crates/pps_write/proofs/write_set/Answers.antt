@@ -1,7 +1,6 @@
 use Rattle.pps_syntax.specs.FromRecord.{lent}
 use Rattle.pps_syntax.specs.SliceTables.{slice_tables}
 use Rattle.pps_write.specs.Runs.{extension-inside, lent_wrong, lent_well}
-use borrow.Author.Rules.{rules}
 use Rattle.pps_write.proofs.write_set.Goals as goal
 
 pub returns-then-fits-inside : goal.returns-then-fits-inside

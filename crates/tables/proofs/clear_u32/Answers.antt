@@ -1,8 +1,5 @@
-use Prim.Native.Nat.{◌-◌}
 use native.Mathlib.Omega.{arith}
-use lib.ListN.{length}
-use borrow.Author.Rules.{rules}
-use Rattle.tables.proofs.Clearing.{Clearing, begins, goes_on, ends}
+use Rattle.tables.proofs.Clearing.{begins, goes_on, ends}
 use Rattle.tables.proofs.clear_u32.Goals as goal
 
 pub loop-i-init : goal.loop-i-init

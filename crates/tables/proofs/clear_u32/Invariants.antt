@@ -1,8 +1,6 @@
 use Prim.Native.Nat.{◌-◌}
-use native.Mathlib.Omega.{arith}
 use lib.ListN.{length}
-use borrow.Author.Rules.{rules}
-use Rattle.tables.proofs.Clearing.{Clearing, begins, goes_on, ends}
+use Rattle.tables.proofs.Clearing.{Clearing}
 use Rattle.tables.proofs.clear_u32.Given as goal
 
 abbrev pub invariant-loop-i : goal.invariant-loop-i

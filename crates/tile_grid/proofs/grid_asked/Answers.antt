@@ -2,7 +2,6 @@ use mathlib.Core.Path.{◌∙◌}
 use Rattle.pps_syntax.specs.FromRecord.{lent}
 use Rattle.pps_syntax.specs.SliceTables.{slice_tables}
 use Rattle.tile_grid.specs.InGrid.{answer-refused, answer-absent, slices-declined, slices-accepted}
-use borrow.Author.Rules.{rules}
 use Rattle.tile_grid.proofs.grid_asked.Goals as goal
 
 pub returns-then-answer-ne0 : goal.returns-then-answer-ne0

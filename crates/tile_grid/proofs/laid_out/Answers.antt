@@ -4,7 +4,6 @@ use mathlib.Core.Path.{◌∙◌}
 use Rattle.pps_syntax.specs.FromRecord.{lent}
 use Rattle.pps_syntax.specs.SliceTables.{slice_tables}
 use Rattle.tile_grid.specs.InGrid.{none-declined, none-absent, placed_ready, slices-placed}
-use borrow.Author.Rules.{rules}
 use Rattle.tile_grid.proofs.laid_out.Goals as goal
 
 pub returns-then-answer-ne0 : goal.returns-then-answer-ne0

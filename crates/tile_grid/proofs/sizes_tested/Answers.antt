@@ -2,7 +2,6 @@ use mathlib.Core.Path.{◌∙◌}
 use Rattle.pps_syntax.specs.FromRecord.{lent}
 use Rattle.pps_syntax.specs.SliceTables.{slice_tables}
 use Rattle.tile_grid.specs.InGrid.{tests-refused, tests-unpartitioned, tests-grid}
-use borrow.Author.Rules.{rules}
 use Rattle.tile_grid.proofs.sizes_tested.Goals as goal
 
 pub returns-then-number-ne0 : goal.returns-then-number-ne0

@@ -1,9 +1,6 @@
 -- The invariant is `Counting`: what remains of the axis, and the last explicit size so far.
-use borrow.Author.Rules.{rules}
 use mathlib.Core.Path.{refl}
-use Prim.Native.Nat.{◌-◌}
-use lib.ListN.{length}
-use Rattle.tile_sizes.proofs.Count.{Counting, begins, goes_on, passes-axis, fits-axis, uniform_some, counted}
+use Rattle.tile_sizes.proofs.Count.{begins, goes_on, passes-axis, fits-axis, uniform_some, counted}
 use Rattle.tile_sizes.proofs.count_sizes.Goals as goal
 
 pub loop-i-init : goal.loop-i-init

@@ -1,6 +1,5 @@
 use native.Mathlib.Omega.{arith}
 use Rattle.tile_sizes.proofs.Blocks.{in_blocks}
-use borrow.Author.Rules.{rules}
 use Rattle.tile_sizes.proofs.in_ctbs.Goals as goal
 
 pub returns-then-log2_ctu_size_minus5-eq0 : goal.returns-then-log2_ctu_size_minus5-eq0

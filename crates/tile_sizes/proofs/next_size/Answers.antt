@@ -1,8 +1,5 @@
 -- src/lib.rt:60:17
-use borrow.Author.Rules.{rules}
 use Rattle.tile_sizes.proofs.Next.{explicit-held, explicit-fits, tail-next, uniform_next}
-use Rattle.tile_sizes.proofs.next_size.Reads as reads
-use Rattle.tile_sizes.proofs.next_size.Lts as lts
 use Rattle.tile_sizes.proofs.next_size.Goals as goal
 
 pub returns-then-e-remaining : goal.returns-then-e-remaining

@@ -1,4 +1,3 @@
-use borrow.Author.Rules.{rules}
 use Rattle.tile_sizes.proofs.Count.{no-heights, heights-fit, heights-pass}
 use Rattle.tile_sizes.proofs.num_slices_in_tile.Goals as goal
 

@@ -1,4 +1,3 @@
-use borrow.Author.Rules.{rules}
 use native.Mathlib.Omega.{arith}
 use Rattle.tile_sizes.proofs.Count.{pieces_le}
 use Rattle.tile_sizes.proofs.pieces.Goals as goal

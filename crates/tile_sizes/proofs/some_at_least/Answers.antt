@@ -1,10 +1,7 @@
 -- The invariant: what is to be found is to be found from i on.
 use borrow.Author.Rules.{rules}
-use mathlib.Core.Path.{◌≡◌, refl, sym, ◌∙◌}
-use Prim.Native.Nat.{◌-◌, ◌≤◌}
+use mathlib.Core.Path.{refl, sym, ◌∙◌}
 use native.Mathlib.Omega.{arith}
-use lib.ListN.{length, drop}
-use Rattle.partition.specs.Entry.{some_at_least}
 use Rattle.tile_sizes.proofs.Search.{found_at, not_at, none_after}
 use Rattle.tile_sizes.proofs.some_at_least.Goals as goal
 

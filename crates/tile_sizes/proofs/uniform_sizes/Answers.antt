@@ -1,7 +1,6 @@
 use mathlib.Core.Path.{sym, ◌∙◌}
 use native.Mathlib.Omega.{arith}
 use Rattle.tile_sizes.specs.Left.{uniform_length, none-length, tail_alone}
-use borrow.Author.Rules.{rules}
 use Rattle.tile_sizes.proofs.uniform_sizes.Goals as goal
 
 pub returns-then-remaining-eq0 : goal.returns-then-remaining-eq0

@@ -1,5 +1,4 @@
 use Rattle.tile_sizes.specs.Limits.{limits_none, limits_made}
-use borrow.Author.Rules.{rules}
 use Rattle.tile_sizes.proofs.within_limits.Goals as goal
 
 pub returns-then-columns-eq0 : goal.returns-then-columns-eq0

@@ -1,6 +1,5 @@
 use mathlib.Core.Path.{sym, ap}
 use Rattle.vvc_pps.specs.Answers.{byte_count}
-use borrow.Author.Rules.{rules}
 use Rattle.vvc_pps.proofs.of_byte_count.Goals as goal
 
 pub returns-in-Bytes : goal.returns-in-Bytes

@@ -1,6 +1,5 @@
 use mathlib.Core.Path.{sym, ap}
 use Rattle.vvc_pps.specs.Answers.{nal_header}
-use borrow.Author.Rules.{rules}
 use Rattle.vvc_pps.proofs.of_header.Goals as goal
 
 pub returns-in-Header : goal.returns-in-Header

@@ -1,6 +1,5 @@
 use mathlib.Core.Path.{sym, ap}
 use Rattle.vvc_pps.specs.Answers.{ue_size}
-use borrow.Author.Rules.{rules}
 use Rattle.vvc_pps.proofs.of_size.Goals as goal
 
 pub returns-in-Bits : goal.returns-in-Bits

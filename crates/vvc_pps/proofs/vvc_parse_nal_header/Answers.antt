@@ -1,6 +1,5 @@
 use mathlib.Core.Path.{ap, ◌∙◌}
 use Rattle.vvc_pps.specs.Answers.{nal_header}
-use borrow.Author.Rules.{rules}
 use Rattle.vvc_pps.proofs.vvc_parse_nal_header.Goals as goal
 
 pub returns : goal.returns

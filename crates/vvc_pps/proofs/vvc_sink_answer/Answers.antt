@@ -1,6 +1,5 @@
 use mathlib.Core.Path.{ap, ◌∙◌}
 use Rattle.vvc_pps.specs.Answers.{byte_count}
-use borrow.Author.Rules.{rules}
 use Rattle.vvc_pps.proofs.vvc_sink_answer.Goals as goal
 
 pub returns : goal.returns

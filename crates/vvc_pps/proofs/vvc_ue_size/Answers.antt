@@ -1,6 +1,5 @@
 use mathlib.Core.Path.{ap, ◌∙◌}
 use Rattle.vvc_pps.specs.Answers.{ue_size}
-use borrow.Author.Rules.{rules}
 use Rattle.vvc_pps.proofs.vvc_ue_size.Goals as goal
 
 pub returns : goal.returns

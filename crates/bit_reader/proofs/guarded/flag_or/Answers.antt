@@ -1,6 +1,5 @@
 use mathlib.Core.Path.{sym, ◌∙◌}
 use Rattle.bit_reader.specs.Laws.{byte-coded, byte-absent}
-use borrow.Author.Rules.{rules}
 use Rattle.bit_reader.proofs.guarded.flag_or.Goals as goal
 
 pub returns-then-on : goal.returns-then-on

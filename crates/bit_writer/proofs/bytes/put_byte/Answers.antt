@@ -1,5 +1,4 @@
 use mathlib.Core.Path.{sym, ◌∙◌}
-use borrow.Author.Rules.{rules}
 use borrow.Author.Tests.{not-true, not-false}
 use Rattle.bit_writer.proofs.Steps.{byte_plain, byte-escaped, byte-kept}
 use Rattle.bit_writer.proofs.bytes.put_byte.Goals as goal

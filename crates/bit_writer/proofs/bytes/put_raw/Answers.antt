@@ -1,4 +1,3 @@
-use borrow.Author.Rules.{rules}
 use Rattle.bit_writer.proofs.Steps.{raw_made}
 use Rattle.bit_writer.proofs.bytes.put_raw.Goals as goal
 

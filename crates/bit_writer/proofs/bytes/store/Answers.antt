@@ -1,6 +1,5 @@
 use mathlib.Core.Path.{sym}
 use lib.Seq.{set_out}
-use borrow.Author.Rules.{rules}
 use Rattle.bit_writer.proofs.bytes.store.Goals as goal
 
 pub returns-else-at-out : goal.returns-else-at-out

@@ -1,4 +1,3 @@
-use borrow.Author.Rules.{rules}
 use Rattle.bit_writer.proofs.Chunked.{power}
 use Rattle.bit_writer.proofs.chunks.pow2.Goals as goal
 

@@ -1,7 +1,6 @@
 use Prim.Native.Nat.{◌<◌}
 use mathlib.Core.Path.{◌∙◌}
 use native.Mathlib.Omega.{arith}
-use borrow.Author.Rules.{rules}
 use Rattle.bit_writer.proofs.Chunked.{chunk_room, made_open, made-whole}
 use Rattle.bit_writer.proofs.chunks.put_chunk.Goals as goal
 

@@ -1,11 +1,9 @@
 -- The bits still to come, fed to what is there, are all the bits fed to what was there.
-use Prim.Native.Nat.{◌-◌, ◌≤◌}
-use mathlib.Core.Path.{◌≡◌, refl, sym, ap, ◌∙◌}
+use Prim.Native.Nat.{◌-◌}
+use mathlib.Core.Path.{refl, sym, ap, ◌∙◌}
 use native.Mathlib.Omega.{arith}
-use borrow.Author.Rules.{rules}
-use lib.ListN.{length}
 use Rattle.codes.specs.Bits.{to_bits}
-use Rattle.bit_writer.specs.Writing.{Writing, sink_over, feed}
+use Rattle.bit_writer.specs.Writing.{Writing, feed}
 use Rattle.bit_writer.specs.Chunks.{chunk_first, feed-zero}
 use Rattle.bit_writer.proofs.chunks.put_word.Goals as goal
 

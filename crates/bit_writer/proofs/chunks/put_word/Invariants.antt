@@ -1,12 +1,9 @@
 -- The bits still to come, fed to what is there, are all the bits fed to what was there.
-use Prim.Native.Nat.{◌-◌, ◌≤◌}
-use mathlib.Core.Path.{◌≡◌, refl, sym, ap, ◌∙◌}
-use native.Mathlib.Omega.{arith}
-use borrow.Author.Rules.{rules}
+use Prim.Native.Nat.{◌≤◌}
+use mathlib.Core.Path.{◌≡◌}
 use lib.ListN.{length}
 use Rattle.codes.specs.Bits.{to_bits}
-use Rattle.bit_writer.specs.Writing.{Writing, sink_over, feed}
-use Rattle.bit_writer.specs.Chunks.{chunk_first, feed-zero}
+use Rattle.bit_writer.specs.Writing.{sink_over, feed}
 use Rattle.bit_writer.proofs.chunks.put_word.Given as goal
 
 abbrev pub invariant-loop-k : goal.invariant-loop-k

@@ -1,7 +1,6 @@
 use Prim.Native.Nat.{◌*◌}
 use mathlib.Core.Path.{sym}
 use native.Mathlib.Omega.{arith}
-use borrow.Author.Rules.{rules}
 use Rattle.codes.specs.Bytes.{bits_past}
 use Rattle.codes.specs.Windows.{byte-bits}
 use Rattle.bit_writer.proofs.copy.byte_at.Goals as goal

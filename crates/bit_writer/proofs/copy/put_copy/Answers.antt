@@ -1,11 +1,8 @@
 -- The bits still to come, fed to what is there, are all the bits fed to what was there.
-use Prim.Native.Nat.{◌+◌, ◌*◌, ◌/◌, ◌%◌, ◌^◌, ◌≤◌}
-use mathlib.Core.Path.{◌≡◌, refl, sym, ◌∙◌}
+use Prim.Native.Nat.{◌%◌}
+use mathlib.Core.Path.{refl, sym, ◌∙◌}
 use native.Mathlib.Omega.{arith}
-use borrow.Author.Rules.{rules}
-use lib.ListN.{length}
-use Rattle.codes.specs.Bytes.{bits_at, bit_list}
-use Rattle.bit_writer.specs.Writing.{sink_over, feed, play-bits}
+use Rattle.bit_writer.specs.Writing.{play-bits}
 use Rattle.bit_writer.proofs.Copying.{copy_starts, copy_turn, copy_ends}
 use Rattle.bit_writer.proofs.copy.put_copy.Goals as goal
 

@@ -1,7 +1,6 @@
-use Prim.Native.Nat.{◌-◌, ◌%◌, ◌<◌}
+use Prim.Native.Nat.{◌%◌, ◌<◌}
 use mathlib.Core.Path.{◌∙◌}
 use native.Mathlib.Omega.{arith}
-use borrow.Author.Rules.{rules}
 use lib.Pow.{shr_le}
 use Rattle.bit_writer.proofs.Chunked.{chunk_room}
 use Rattle.bit_writer.proofs.Copying.{put-made}

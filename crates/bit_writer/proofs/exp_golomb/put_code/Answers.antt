@@ -1,5 +1,4 @@
 use native.Mathlib.Omega.{arith}
-use borrow.Author.Rules.{rules}
 use Rattle.bit_writer.proofs.Coding.{code-short, code-long, code-width}
 use Rattle.bit_writer.proofs.exp_golomb.put_code.Goals as goal
 

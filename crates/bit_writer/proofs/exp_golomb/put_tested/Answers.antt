@@ -1,4 +1,3 @@
-use borrow.Author.Rules.{rules}
 use Rattle.bit_writer.proofs.Coding.{tested-made}
 use Rattle.bit_writer.proofs.exp_golomb.put_tested.Goals as goal
 

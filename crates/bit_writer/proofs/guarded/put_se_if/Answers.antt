@@ -1,5 +1,4 @@
 -- A signed argument reaches a callee through its 32 bits and back, hence `to_z-of_z`.
-use borrow.Author.Rules.{rules}
 use mir.Facts.{to_z-of_z}
 use Rattle.bit_writer.proofs.Steps.{only-off}
 use Rattle.bit_writer.proofs.Coding.{signed-only}

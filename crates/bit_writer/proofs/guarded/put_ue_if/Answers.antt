@@ -1,5 +1,4 @@
 use mathlib.Core.Path.{◌∙◌}
-use borrow.Author.Rules.{rules}
 use Rattle.bit_writer.proofs.Steps.{only-on, only-off}
 use Rattle.bit_writer.proofs.guarded.put_ue_if.Goals as goal
 

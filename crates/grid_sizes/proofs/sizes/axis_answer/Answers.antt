@@ -1,4 +1,3 @@
-use borrow.Author.Rules.{rules}
 use native.Mathlib.Omega.{arith}
 use borrow.Author.Tests.{not-true, not-false}
 use Rattle.grid_sizes.proofs.GridChecks.{axis-passed, axis-over, axis-within, axis-count}
@@ -12,6 +11,6 @@ returns-then-c-limit c = (axis-over _ _ _ _ c.count_sizes-c.ensures.0 _ (not-fal
 
 pub returns : goal.returns
 returns c = let fits = not-false _ c.if-not-c.false in (
-      axis-within _ _ _ _ c.count_sizes-c.ensures.0 _ fits c.count_sizes-c.ensures.1 c.if-c-limit.false,
-      λ z. axis-count _ _ 0 _ c.count_sizes-c.ensures.0 _ fits c.count_sizes-c.ensures.1,
-    )
+  axis-within _ _ _ _ c.count_sizes-c.ensures.0 _ fits c.count_sizes-c.ensures.1 c.if-c-limit.false,
+  λ z. axis-count _ _ 0 _ c.count_sizes-c.ensures.0 _ fits c.count_sizes-c.ensures.1,
+)

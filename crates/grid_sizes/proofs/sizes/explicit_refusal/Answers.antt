@@ -1,4 +1,3 @@
-use borrow.Author.Rules.{rules}
 use mathlib.Core.Path.{sym, ◌∙◌}
 use Rattle.grid_sizes.proofs.GridChecks.{no-columns, no_rows, wide-column, high-row, explicit-pass}
 use Rattle.grid_sizes.proofs.sizes.explicit_refusal.Goals as goal

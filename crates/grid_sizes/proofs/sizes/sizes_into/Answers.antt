@@ -1,10 +1,8 @@
 -- The invariant is `Filling`: the sizes written so far and those left are all of them. The measure is what remains of the axis.
-use borrow.Author.Rules.{rules}
 use Prim.Native.Nat.{◌≤◌}
 use native.Mathlib.Omega.{arith}
-use Rattle.partition.specs.Sizes.{axis_sizes}
 use Rattle.tile_sizes.specs.Left.{last_fits}
-use Rattle.grid_sizes.proofs.Fill.{Filling, filling_begins, next-some, next-within, has_room, filling_goes-on, filling_ends}
+use Rattle.grid_sizes.proofs.Fill.{filling_begins, next-some, next-within, has_room, filling_goes-on, filling_ends}
 use Rattle.grid_sizes.proofs.sizes.sizes_into.Goals as goal
 
 pub overflow_add-uniform : goal.overflow_add-uniform

@@ -1,4 +1,3 @@
-use borrow.Author.Rules.{rules}
 use Rattle.pps_answer.specs.Answers.{is_accepted}
 use Rattle.pps_answer.proofs.PpsRead.is_accepted.Goals as goal
 

@@ -1,8 +1,6 @@
 use mathlib.Core.Path.{sym, ◌∙◌}
 use native.Mathlib.Omega.{arith}
-use borrow.Author.Tests.{not-true, not-false}
 use Rattle.pps_answer.specs.Before.{header-short, header-long, before_1, before_2, before_3, before_4, before_5, before_0}
-use borrow.Author.Rules.{rules}
 use Rattle.pps_answer.proofs.before.before_fields.Goals as goal
 
 pub returns-then-header-ne16 : goal.returns-then-header-ne16

@@ -1,5 +1,4 @@
 use Rattle.pps_answer.specs.Lending.{tables-cleared}
-use borrow.Author.Rules.{rules}
 use Rattle.pps_answer.proofs.clear.clear_tables.Goals as goal
 
 pub returns : goal.returns

@@ -1,4 +1,3 @@
-use borrow.Author.Rules.{rules}
 use Rattle.pps_answer.proofs.clear.clear_unless.Goals as goal
 
 pub returns-then-accepted : goal.returns-then-accepted

@@ -1,12 +1,9 @@
 -- What is left to be read and stored, from where the loop stands, makes the whole list: `Filling`, with a law for each way through the loop.
 use Prim.Native.Nat.{◌-◌}
-use native.Mathlib.Nat.{zero-add}
 use Rattle.syntax.specs.Syntax.{parse}
-use Rattle.tables.specs.Tables.{blank}
-use Rattle.pps_syntax.specs.Chroma.{triple, triple_element}
-use Rattle.pps_fields.specs.ListReads.{Filling, list-many, fill_begins, fill_more, fill_stops, fill_ends, filled_as}
-use Rattle.pps_syntax.specs.Record.{offsets_of, no_triples}
-use borrow.Author.Rules.{rules}
+use Rattle.pps_syntax.specs.Chroma.{triple}
+use Rattle.pps_fields.specs.ListReads.{Filling}
+use Rattle.pps_syntax.specs.Record.{offsets_of}
 use Rattle.pps_blocks.proofs.chroma.read_triples.Given as goal
 
 abbrev pub invariant-loop-i : goal.invariant-loop-i

@@ -1,6 +1,5 @@
 use native.Mathlib.Omega.{arith}
 use Rattle.pps_fields.specs.Axis.{axis-over, axis-within}
-use borrow.Author.Rules.{rules}
 use Rattle.pps_fields.proofs.lists.axis_read.Goals as goal
 
 pub returns-then-length-taken : goal.returns-then-length-taken

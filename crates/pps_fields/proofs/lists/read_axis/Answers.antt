@@ -1,9 +1,7 @@
 -- What is left to be read, stored and counted, from where the loop stands, makes the whole: `Pass`, with a law for each
 -- way through the loop.
-use Prim.Native.Nat.{◌-◌}
 use native.Mathlib.Omega.{arith}
-use Rattle.pps_fields.specs.Axis.{Pass, pass-begins, pass-few, pass-small, pass-ends, pass-stops, pass-more, size_small}
-use borrow.Author.Rules.{rules}
+use Rattle.pps_fields.specs.Axis.{pass-begins, pass-few, pass-small, pass-ends, pass-stops, pass-more, size_small}
 use Rattle.pps_fields.proofs.lists.read_axis.Goals as goal
 
 pub loop-i-init : goal.loop-i-init
@@ -16,7 +14,7 @@ pub shape_of-table-then-cur-ne0 : goal.shape_of-table-then-cur-ne0
 shape_of-table-then-cur-ne0 c = c.loop-i.invariant.stored.long
 
 pub returns-then-cur-ne0 : goal.returns-then-cur-ne0
-returns-then-cur-ne0 c =  record { axis = (pass-stops c.loop-i.invariant c.loop-i-test.true c.ue_below-v.ensures c.if-cur-ne0.true c.axis_read.ensures).0; table = (pass-stops c.loop-i.invariant c.loop-i-test.true c.ue_below-v.ensures c.if-cur-ne0.true c.axis_read.ensures).1 }
+returns-then-cur-ne0 c = record { axis = (pass-stops c.loop-i.invariant c.loop-i-test.true c.ue_below-v.ensures c.if-cur-ne0.true c.axis_read.ensures).0; table = (pass-stops c.loop-i.invariant c.loop-i-test.true c.ue_below-v.ensures c.if-cur-ne0.true c.axis_read.ensures).1 }
 
 pub overflow_add-uniform : goal.overflow_add-uniform
 overflow_add-uniform c = omega (arith, size_small c.loop-i.invariant c.loop-i-test.true c.ue_below-v.ensures)
@@ -37,4 +35,4 @@ pub shape_of-table : goal.shape_of-table
 shape_of-table c = c.loop-i.invariant.stored.long
 
 pub returns : goal.returns
-returns c =  record { axis = (pass-ends c.loop-i.invariant c.loop-i-test.false c.axis_read-2.ensures).0; table = (pass-ends c.loop-i.invariant c.loop-i-test.false c.axis_read-2.ensures).1 }
+returns c = record { axis = (pass-ends c.loop-i.invariant c.loop-i-test.false c.axis_read-2.ensures).0; table = (pass-ends c.loop-i.invariant c.loop-i-test.false c.axis_read-2.ensures).1 }

@@ -1,9 +1,7 @@
 -- What is left to be read, stored and counted, from where the loop stands, makes the whole: `Pass`, with a law for each
 -- way through the loop.
 use Prim.Native.Nat.{◌-◌}
-use native.Mathlib.Omega.{arith}
-use Rattle.pps_fields.specs.Axis.{Pass, pass-begins, pass-few, pass-small, pass-ends, pass-stops, pass-more, size_small}
-use borrow.Author.Rules.{rules}
+use Rattle.pps_fields.specs.Axis.{Pass}
 use Rattle.pps_fields.proofs.lists.read_axis.Given as goal
 
 abbrev pub invariant-loop-i : goal.invariant-loop-i

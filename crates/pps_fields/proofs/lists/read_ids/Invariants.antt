@@ -1,11 +1,8 @@
 -- What is left to be read and stored, from where the loop stands, makes the whole list: `Filling`, with a law for each
 -- way through the loop.
 use Prim.Native.Nat.{◌-◌, min}
-use mathlib.Core.Path.{ap}
-use native.Mathlib.Omega.{arith}
-use Rattle.syntax.specs.Elements.{bits_parsed, u}
-use Rattle.pps_fields.specs.ListReads.{Filling, list-many, fill_begins, fill_more, fill_stops, fill_ends, filled_numbers}
-use borrow.Author.Rules.{rules}
+use Rattle.syntax.specs.Elements.{u}
+use Rattle.pps_fields.specs.ListReads.{Filling}
 use Rattle.pps_fields.proofs.lists.read_ids.Given as goal
 
 abbrev pub invariant-loop-i : goal.invariant-loop-i

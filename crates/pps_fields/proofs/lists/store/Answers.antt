@@ -1,7 +1,6 @@
 use mathlib.Core.Path.{sym}
 use native.Mathlib.Omega.{arith}
 use lib.Seq.{set_out}
-use borrow.Author.Rules.{rules}
 use Rattle.pps_fields.proofs.lists.store.Goals as goal
 
 pub returns-then-n-from : goal.returns-then-n-from

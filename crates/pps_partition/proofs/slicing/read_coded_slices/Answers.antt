@@ -1,5 +1,4 @@
 use Rattle.pps_partition.specs.Slicing.{slices-coded, slices-absent}
-use borrow.Author.Rules.{rules}
 use Rattle.pps_partition.proofs.slicing.read_coded_slices.Goals as goal
 
 pub returns-then-coded : goal.returns-then-coded

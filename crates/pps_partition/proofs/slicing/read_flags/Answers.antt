@@ -3,7 +3,6 @@ use Rattle.pps_fields.specs.FieldReads.{flag-field, tested-or}
 use Rattle.pps_partition.specs.SliceFlags.{flags_read}
 use lib.Dec.{leb, lit<}
 use Rattle.partition.specs.Grid.{max_slices_minus1}
-use borrow.Author.Rules.{rules}
 use Rattle.pps_partition.proofs.slicing.read_flags.Goals as goal
 
 pub returns : goal.returns

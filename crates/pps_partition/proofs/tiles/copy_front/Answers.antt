@@ -1,11 +1,10 @@
 -- The invariant: i numbers are copied.
-use Prim.Native.Nat.{◌-◌, ◌≤◌, ◌<◌}
+use Prim.Native.Nat.{◌<◌}
 use mathlib.Core.Path.{◌≡◌, refl, ap, ◌∙◌}
 use native.Mathlib.Omega.{arith}
 use lib.ListN.{length, take}
-use lib.Seq.{sets, length-sets}
+use lib.Seq.{length-sets}
 use Rattle.pps_partition.proofs.Fronts.{copied_more}
-use borrow.Author.Rules.{rules}
 use Rattle.pps_partition.proofs.tiles.copy_front.Goals as goal
 
 pub loop-i-init : goal.loop-i-init

@@ -1,11 +1,8 @@
 -- The invariant: i numbers are copied.
-use Prim.Native.Nat.{◌-◌, ◌≤◌, ◌<◌}
-use mathlib.Core.Path.{◌≡◌, refl, ap, ◌∙◌}
-use native.Mathlib.Omega.{arith}
-use lib.ListN.{length, take}
-use lib.Seq.{sets, length-sets}
-use Rattle.pps_partition.proofs.Fronts.{copied_more}
-use borrow.Author.Rules.{rules}
+use Prim.Native.Nat.{◌-◌, ◌≤◌}
+use mathlib.Core.Path.{◌≡◌}
+use lib.ListN.{take}
+use lib.Seq.{sets}
 use Rattle.pps_partition.proofs.tiles.copy_front.Given as goal
 
 abbrev pub invariant-loop-i : goal.invariant-loop-i

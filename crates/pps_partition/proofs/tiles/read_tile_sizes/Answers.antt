@@ -1,6 +1,5 @@
 use native.Mathlib.Omega.{arith}
 use Rattle.pps_partition.specs.TilesStored.{ue-room, tiles-made}
-use borrow.Author.Rules.{rules}
 use Rattle.pps_partition.proofs.tiles.read_tile_sizes.Goals as goal
 
 pub overflow_add-columns_minus1 : goal.overflow_add-columns_minus1

@@ -3,11 +3,10 @@
 use Prim.Native.Nat.{◌≤◌}
 use mathlib.Core.Path.{sym}
 use native.Mathlib.Omega.{arith}
-use lib.ListN.{length, take}
+use lib.ListN.{length}
 use lib.Seq.{length-take-le}
 use Rattle.tables.specs.Tables.{over}
-use Rattle.partition.specs.Sizes.{axis_sizes}
-use Rattle.grid_sizes.proofs.Fill.{Filling, next-some, next-within, has_room, filling_goes-on, filling_ends}
+use Rattle.grid_sizes.proofs.Fill.{next-some, next-within, has_room, filling_goes-on, filling_ends}
 use Rattle.pps_partition.proofs.Fronts.{spread_begins, next_in_place}
 use Rattle.pps_partition.proofs.tiles.spread.Goals as goal
 

@@ -1,5 +1,4 @@
 use Rattle.pps_partition.specs.GridTests.{axes-made}
-use borrow.Author.Rules.{rules}
 use Rattle.pps_partition.proofs.tiles.test_axes.Goals as goal
 
 pub returns : goal.returns

@@ -1,6 +1,5 @@
 use mathlib.Core.Path.{◌∙◌}
 use Rattle.pps_parts.specs.Ends.{extension_unset, extension-refused, extension-taken}
-use borrow.Author.Rules.{rules}
 use Rattle.pps_parts.proofs.end.extension_bits.Goals as goal
 
 pub returns-then-flag-eq0 : goal.returns-then-flag-eq0

@@ -1,7 +1,6 @@
 use native.Mathlib.Omega.{arith}
 use Rattle.bit_reader.specs.Extension.{extension_le}
 use Rattle.pps_parts.specs.Ends.{extension-inside}
-use borrow.Author.Rules.{rules}
 use Rattle.pps_parts.proofs.end.read_end.Goals as goal
 
 pub overflow_add-to : goal.overflow_add-to

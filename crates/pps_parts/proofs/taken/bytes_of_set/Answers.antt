@@ -1,7 +1,6 @@
 use mathlib.Core.Path.{sym}
 use lib.Seq.{length-take-le}
 use Rattle.pps_parts.specs.Taken.{taken_none, taken-some}
-use borrow.Author.Rules.{rules}
 use Rattle.pps_parts.proofs.taken.bytes_of_set.Goals as goal
 
 pub returns-then-bytes_taken-work : goal.returns-then-bytes_taken-work

@@ -1,5 +1,4 @@
 use Rattle.pps_put.proofs.Tests.{power}
-use borrow.Author.Rules.{rules}
 use Rattle.pps_put.proofs.leaves.pow2.Goals as goal
 
 pub returns : goal.returns

@@ -4,7 +4,6 @@ use Rattle.codes.specs.Coded.{se_symbols}
 use Rattle.pps_syntax.specs.Offsets.{in_range}
 use Rattle.bit_writer.specs.Writing.{play_then}
 use Rattle.pps_put.specs.Steps.{of-value, tested}
-use borrow.Author.Rules.{rules}
 use Rattle.pps_put.proofs.leaves.put_offset.Goals as goal
 
 pub returns : goal.returns

@@ -2,7 +2,6 @@ use mathlib.Core.Path.{◌∙◌}
 use mir.Facts.{to_z-of_z}
 use Rattle.pps_syntax.specs.Offsets.{offset}
 use Rattle.pps_put.specs.Steps.{only-on, only-off, of-value}
-use borrow.Author.Rules.{rules}
 use Rattle.pps_put.proofs.leaves.put_offset_if.Goals as goal
 
 pub returns-then-on : goal.returns-then-on

@@ -1,7 +1,6 @@
 use Rattle.codes.specs.Symbols.{checked}
 use Rattle.bit_writer.specs.Writing.{play_then}
 use Rattle.pps_put.specs.Steps.{tested}
-use borrow.Author.Rules.{rules}
 use Rattle.pps_put.proofs.leaves.put_u.Goals as goal
 
 pub returns : goal.returns

@@ -1,5 +1,4 @@
 use Rattle.bit_writer.specs.Writing.{play_then}
-use borrow.Author.Rules.{rules}
 use Rattle.pps_put.proofs.leaves.put_ue_tested.Goals as goal
 
 pub returns : goal.returns

@@ -1,6 +1,5 @@
 use mathlib.Core.Path.{◌∙◌}
 use Rattle.pps_put.specs.Steps.{only-on, only-off}
-use borrow.Author.Rules.{rules}
 use Rattle.pps_put.proofs.leaves.put_ue_tested_if.Goals as goal
 
 pub returns-then-on : goal.returns-then-on

@@ -1,5 +1,4 @@
 use borrow.Author.Tests.{lt-ltb, le-ltb}
-use borrow.Author.Rules.{rules}
 use Rattle.pps_put_blocks.proofs.chroma.list_ok.Goals as goal
 
 pub returns-then-n-gt0 : goal.returns-then-n-gt0

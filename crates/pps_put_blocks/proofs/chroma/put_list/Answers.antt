@@ -1,5 +1,4 @@
 use Rattle.pps_put_blocks.specs.ChromaPut.{triples-made, triples_none}
-use borrow.Author.Rules.{rules}
 use Rattle.pps_put_blocks.proofs.chroma.put_list.Goals as goal
 
 pub put_triples-a-requires : goal.put_triples-a-requires

@@ -1,12 +1,5 @@
-use Prim.Native.Nat.{◌-◌}
-use mathlib.Core.Path.{◌≡◌, refl, sym, ◌∙◌}
-use lib.ListN.{length, drop, take}
-use Rattle.bit_writer.specs.Writing.{sink_over, play}
-use Rattle.pps_syntax.specs.Chroma.{triple_element}
-use Rattle.pps_syntax.specs.FromRecord.{triples_from}
-use Rattle.pps_put.specs.Each.{each}
+use mathlib.Core.Path.{refl, sym, ◌∙◌}
 use Rattle.pps_put_blocks.specs.ChromaPut.{triples_start, triples-turn, triples-end}
-use borrow.Author.Rules.{rules}
 use Rattle.pps_put_blocks.proofs.chroma.put_triples.Goals as goal
 
 pub loop-i-init : goal.loop-i-init
@@ -14,10 +7,10 @@ loop-i-init c = (refl, triples_start _ _ _ _ c.well_formed.1.1.1.1.0.1.0.1 c.req
 
 pub loop-i-preserved : goal.loop-i-preserved
 loop-i-preserved c = let a = c.args in (
-      c.put_triple-s.auto.out ∙ c.loop-i.invariant.0,
-      triples-turn _ a.joint a.n a.triples c.well_formed.1.1.1.1.0.1.0.1 c.requires c.loop-i.i c.triple_at-t.result c.loop-i-test.true c.triple_at-t.ensures
-          c.put_triple-s.ensures ∙ c.loop-i.invariant.1,
-    )
+  c.put_triple-s.auto.out ∙ c.loop-i.invariant.0,
+  triples-turn _ a.joint a.n a.triples c.well_formed.1.1.1.1.0.1.0.1 c.requires c.loop-i.i c.triple_at-t.result c.loop-i-test.true c.triple_at-t.ensures
+      c.put_triple-s.ensures ∙ c.loop-i.invariant.1,
+)
 
 pub shape_of-out : goal.shape_of-out
 shape_of-out c = c.loop-i.invariant.0

@@ -1,12 +1,10 @@
 use Prim.Native.Nat.{◌-◌}
-use mathlib.Core.Path.{◌≡◌, refl, sym, ◌∙◌}
+use mathlib.Core.Path.{◌≡◌}
 use lib.ListN.{length, drop, take}
 use Rattle.bit_writer.specs.Writing.{sink_over, play}
 use Rattle.pps_syntax.specs.Chroma.{triple_element}
 use Rattle.pps_syntax.specs.FromRecord.{triples_from}
 use Rattle.pps_put.specs.Each.{each}
-use Rattle.pps_put_blocks.specs.ChromaPut.{triples_start, triples-turn, triples-end}
-use borrow.Author.Rules.{rules}
 use Rattle.pps_put_blocks.proofs.chroma.put_triples.Given as goal
 
 abbrev pub invariant-loop-i : goal.invariant-loop-i

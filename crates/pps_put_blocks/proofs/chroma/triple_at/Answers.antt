@@ -1,5 +1,4 @@
 use Rattle.pps_put_blocks.specs.ChromaPut.{no-triple}
-use borrow.Author.Rules.{rules}
 use Rattle.pps_put_blocks.proofs.chroma.triple_at.Goals as goal
 
 pub returns : goal.returns

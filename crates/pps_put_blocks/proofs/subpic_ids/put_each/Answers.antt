@@ -1,11 +1,10 @@
-use Prim.Native.Nat.{◌-◌, min}
+use Prim.Native.Nat.{min}
 use mathlib.Core.Path.{◌≡◌, refl, sym, ◌∙◌}
 use native.Mathlib.Omega.{arith}
-use lib.ListN.{length, drop, take}
-use borrow.Author.Rules.{rules, scaled_Fits}
-use Rattle.bit_writer.specs.Writing.{sink_over, play}
+use lib.ListN.{length}
+use borrow.Author.Rules.{scaled_Fits}
 use Rattle.syntax.specs.Elements.{u}
-use Rattle.pps_put.specs.Each.{each, each_turn, each-end}
+use Rattle.pps_put.specs.Each.{each_turn, each-end}
 use Rattle.pps_put_blocks.proofs.subpic_ids.put_each.Goals as goal
 
 pub loop-i-init : goal.loop-i-init

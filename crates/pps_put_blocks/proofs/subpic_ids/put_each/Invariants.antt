@@ -1,11 +1,9 @@
-use Prim.Native.Nat.{◌-◌, min}
-use mathlib.Core.Path.{◌≡◌, refl, sym, ◌∙◌}
-use native.Mathlib.Omega.{arith}
+use Prim.Native.Nat.{◌-◌}
+use mathlib.Core.Path.{◌≡◌}
 use lib.ListN.{length, drop, take}
-use borrow.Author.Rules.{rules, scaled_Fits}
 use Rattle.bit_writer.specs.Writing.{sink_over, play}
 use Rattle.syntax.specs.Elements.{u}
-use Rattle.pps_put.specs.Each.{each, each_turn, each-end}
+use Rattle.pps_put.specs.Each.{each}
 use Rattle.pps_put_blocks.proofs.subpic_ids.put_each.Given as goal
 
 abbrev pub invariant-loop-i : goal.invariant-loop-i

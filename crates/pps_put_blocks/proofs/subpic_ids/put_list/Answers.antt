@@ -1,7 +1,6 @@
 use native.Mathlib.Numerals.{add-one}
 use native.Mathlib.Omega.{arith}
 use Rattle.pps_put_blocks.specs.SubpicIdsPut.{ids-made, ids-none}
-use borrow.Author.Rules.{rules}
 use Rattle.pps_put_blocks.proofs.subpic_ids.put_list.Goals as goal
 
 pub put_each-a-requires : goal.put_each-a-requires

@@ -1,5 +1,4 @@
 use Rattle.pps_put_blocks.specs.SubpicIdsPut.{num-coded, num-inferred, num-none}
-use borrow.Author.Rules.{rules}
 use Rattle.pps_put_blocks.proofs.subpic_ids.put_num.Goals as goal
 
 pub returns-then-partitioned : goal.returns-then-partitioned

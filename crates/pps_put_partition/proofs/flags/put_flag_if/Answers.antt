@@ -1,7 +1,6 @@
 use Rattle.pps_put_partition.specs.Made.{flag-on}
 use Rattle.pps_put_slices.specs.Stop.{on-refused}
 use mathlib.Core.Path.{sym}
-use borrow.Author.Rules.{rules}
 use Rattle.pps_put_partition.proofs.flags.put_flag_if.Goals as goal
 
 pub returns-then-w-ne0 : goal.returns-then-w-ne0

@@ -1,5 +1,4 @@
 use Rattle.pps_put_partition.specs.Made.{num-coded, num-none}
-use borrow.Author.Rules.{rules}
 use Rattle.pps_put_partition.proofs.flags.put_num_slices.Goals as goal
 
 pub returns-then-on : goal.returns-then-on

@@ -1,5 +1,4 @@
 use Rattle.pps_put_partition.specs.Made.{rect-coded, rect-inferred}
-use borrow.Author.Rules.{rules}
 use Rattle.pps_put_partition.proofs.flags.put_rect.Goals as goal
 
 pub returns-then-several : goal.returns-then-several

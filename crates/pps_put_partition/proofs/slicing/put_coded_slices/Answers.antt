@@ -1,5 +1,4 @@
 use Rattle.pps_put_partition.specs.Rest.{slices-coded, slices-absent}
-use borrow.Author.Rules.{rules}
 use Rattle.pps_put_partition.proofs.slicing.put_coded_slices.Goals as goal
 
 pub returns-then-coded : goal.returns-then-coded

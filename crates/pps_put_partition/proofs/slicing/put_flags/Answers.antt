@@ -1,5 +1,4 @@
 use Rattle.pps_put_partition.specs.Rest.{flags_of, flags_made}
-use borrow.Author.Rules.{rules}
 use Rattle.pps_put_partition.proofs.slicing.put_flags.Goals as goal
 
 pub returns : goal.returns

@@ -1,4 +1,3 @@
-use borrow.Author.Rules.{rules}
 use Rattle.pps_put_partition.specs.Rest.{flags_of, rest-made}
 use Rattle.pps_put_partition.proofs.slicing.put_slicing.Goals as goal
 

@@ -1,5 +1,4 @@
 use Rattle.pps_put_partition.specs.Made.{ctu-stops, ctu-goes}
-use borrow.Author.Rules.{rules}
 use Rattle.pps_put_partition.proofs.tiles.put_ctu_size.Goals as goal
 
 pub returns-then-a-ne0 : goal.returns-then-a-ne0

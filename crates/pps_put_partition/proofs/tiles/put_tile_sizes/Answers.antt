@@ -1,6 +1,5 @@
 use Rattle.pps_put_partition.specs.Made.{tiles_stop, tiles_ready, tiles-go, some-long}
 use mathlib.Core.Path.{refl, ◌∙◌}
-use borrow.Author.Rules.{rules}
 use Rattle.pps_put_partition.proofs.tiles.put_tile_sizes.Goals as goal
 
 pub returns-then-b-ne0 : goal.returns-then-b-ne0

@@ -1,5 +1,4 @@
 use native.Mathlib.Omega.{arith}
-use borrow.Author.Rules.{rules}
 use Rattle.pps_put_parts.specs.Extension.{ends-none, ends_by, ends-far}
 use Rattle.pps_put_parts.proofs.extension.end_in_one.Goals as goal
 

@@ -1,4 +1,3 @@
-use borrow.Author.Rules.{rules}
 use Rattle.pps_put_parts.specs.Extension.{extension-none, extension-put}
 use Rattle.pps_put_parts.proofs.extension.put_extension.Goals as goal
 

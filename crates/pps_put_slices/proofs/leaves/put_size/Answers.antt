@@ -1,7 +1,6 @@
 use Rattle.pps_put_slices.specs.StopSteps.{tested}
 use Rattle.pps_put_slices.specs.Stop.{on_then}
 use mathlib.Core.Path.{refl}
-use borrow.Author.Rules.{rules}
 use Rattle.pps_put_slices.proofs.leaves.put_size.Goals as goal
 
 pub returns : goal.returns

@@ -1,11 +1,8 @@
-use Rattle.pps_put_slices.specs.Sizes.{sizes_symbols, sizes-turn, sizes-end}
-use Rattle.pps_put_slices.specs.Stop.{play_on}
-use Rattle.bit_writer.specs.Writing.{sink_over}
-use borrow.Author.Rules.{rules, scaled_Fits}
-use lib.ListN.{length, drop}
+use Rattle.pps_put_slices.specs.Sizes.{sizes-turn, sizes-end}
+use borrow.Author.Rules.{scaled_Fits}
+use lib.ListN.{length}
 use native.Mathlib.Omega.{arith}
-use mathlib.Core.Path.{◌≡◌, refl, sym, ◌∙◌}
-use Prim.Native.Nat.{◌-◌}
+use mathlib.Core.Path.{refl, sym, ◌∙◌}
 use Rattle.pps_put_slices.proofs.leaves.put_sizes.Goals as goal
 
 pub loop-i-init : goal.loop-i-init

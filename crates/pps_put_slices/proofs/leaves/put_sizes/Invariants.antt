@@ -1,10 +1,8 @@
-use Rattle.pps_put_slices.specs.Sizes.{sizes_symbols, sizes-turn, sizes-end}
+use Rattle.pps_put_slices.specs.Sizes.{sizes_symbols}
 use Rattle.pps_put_slices.specs.Stop.{play_on}
 use Rattle.bit_writer.specs.Writing.{sink_over}
-use borrow.Author.Rules.{rules, scaled_Fits}
 use lib.ListN.{length, drop}
-use native.Mathlib.Omega.{arith}
-use mathlib.Core.Path.{◌≡◌, refl, sym, ◌∙◌}
+use mathlib.Core.Path.{◌≡◌}
 use Prim.Native.Nat.{◌-◌}
 use Rattle.pps_put_slices.proofs.leaves.put_sizes.Given as goal
 

@@ -1,6 +1,5 @@
 use Rattle.pps_put_slices.specs.Stop.{stopped, went_on}
 use lib.Dec.{lit<}
-use borrow.Author.Rules.{rules}
 use Rattle.pps_put_slices.proofs.leaves.put_ue.Goals as goal
 
 pub returns-then-a-ne0 : goal.returns-then-a-ne0

@@ -1,4 +1,3 @@
-use borrow.Author.Rules.{rules}
 use Rattle.pps_put_slices.proofs.parts.inside.Goals as goal
 
 pub returns : goal.returns

@@ -1,7 +1,6 @@
 use Rattle.pps_put_slices.specs.Moved.{moved_by, moved_on, moved_none}
 use mir.Facts.{to_z-of_z}
 use mathlib.Core.Path.{refl}
-use borrow.Author.Rules.{rules}
 use Rattle.pps_put_slices.proofs.parts.put_move.Goals as goal
 
 pub returns-then-coded : goal.returns-then-coded

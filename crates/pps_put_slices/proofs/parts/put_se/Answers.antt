@@ -1,6 +1,5 @@
 use Rattle.pps_put_slices.specs.Signed.{se-stops, se-goes}
 use mir.Facts.{to_z-of_z}
-use borrow.Author.Rules.{rules}
 use Rattle.pps_put_slices.proofs.parts.put_se.Goals as goal
 
 pub returns-then-a-ne0 : goal.returns-then-a-ne0

@@ -1,5 +1,4 @@
 use Rattle.pps_put_slices.specs.PartsMade.{size-made}
-use borrow.Author.Rules.{rules}
 use Rattle.pps_put_slices.proofs.parts.put_size_in_tiles.Goals as goal
 
 pub returns : goal.returns

@@ -1,14 +1,10 @@
-use borrow.Author.Rules.{rules}
-use Prim.Native.Nat.{◌<◌, ◌*◌, ◌-◌, ◌^◌}
-use mathlib.Core.Path.{◌≡◌, refl, ◌∙◌}
-use native.Mathlib.Omega.{arith}
+use Prim.Native.Nat.{◌-◌}
+use mathlib.Core.Path.{◌≡◌}
 use lib.ListN.{length}
 use Rattle.partition.specs.Grid.{grid_with}
 use Rattle.bit_writer.specs.Writing.{sink_over}
-use Rattle.grid_sizes.specs.Fronts.{tiles-few}
 use Rattle.pps_syntax.specs.SliceTables.{slice_tables}
-use Rattle.pps_put_slices.specs.Held.{Held, held-begins, held-ends, held-short, held-stops, held_more, held_small}
-use Rattle.pps_put_slices.specs.Tabled.{part-within, part-few, slice-at, entry_tabled}
+use Rattle.pps_put_slices.specs.Held.{Held}
 use Rattle.pps_put_slices.proofs.walk.put_entries.Given as goal
 
 abbrev pub invariant-loop-slice : goal.invariant-loop-slice

@@ -1,7 +1,6 @@
 use mathlib.Core.Path.{refl}
 -- Nothing refuses: the payload is short enough and the buffer long enough.
 use Rattle.pps_read.specs.Payload.{payload-count, payload-out, payload-not-refused}
-use borrow.Author.Rules.{rules}
 use Rattle.pps_read.proofs.payload.unescape_payload.Goals as goal
 
 pub returns-in-Bytes : goal.returns-in-Bytes

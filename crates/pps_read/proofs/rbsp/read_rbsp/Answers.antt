@@ -1,5 +1,4 @@
 use Rattle.pps_read.specs.RbspRead.{answer-made, lists_made}
-use borrow.Author.Rules.{rules}
 use Rattle.pps_read.proofs.rbsp.read_rbsp.Goals as goal
 
 pub shape_of-subpic_ids : goal.shape_of-subpic_ids

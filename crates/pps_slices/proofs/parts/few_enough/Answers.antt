@@ -1,5 +1,4 @@
 use Rattle.pps_slices.specs.EntryMade.{few_past}
-use borrow.Author.Rules.{rules}
 use Rattle.pps_slices.proofs.parts.few_enough.Goals as goal
 
 pub returns-then-n-slice : goal.returns-then-n-slice

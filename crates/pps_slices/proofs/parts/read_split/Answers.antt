@@ -1,7 +1,6 @@
 use mathlib.Core.Path.{refl, ap}
 use mathlib.Core.Bool.{not}
 use Rattle.pps_slices.specs.EntryMade.{unsplit_made, split-made}
-use borrow.Author.Rules.{rules}
 use Rattle.pps_slices.proofs.parts.read_split.Goals as goal
 
 pub returns-then-not-split : goal.returns-then-not-split

@@ -1,5 +1,4 @@
 use Rattle.pps_slices.specs.EntryMade.{width-made}
-use borrow.Author.Rules.{rules}
 use Rattle.pps_slices.proofs.parts.read_width.Goals as goal
 
 pub returns : goal.returns

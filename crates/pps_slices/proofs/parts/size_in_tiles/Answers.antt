@@ -1,6 +1,5 @@
 use mathlib.Core.Path.{refl}
 use Rattle.pps_fields.specs.FieldReads.{tested-made}
-use borrow.Author.Rules.{rules}
 use Rattle.pps_slices.proofs.parts.size_in_tiles.Goals as goal
 
 pub returns : goal.returns

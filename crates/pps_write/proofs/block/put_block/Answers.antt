@@ -3,7 +3,6 @@ use Rattle.pps_syntax.specs.FromRecord.{lent}
 use Rattle.pps_syntax.specs.SliceTables.{slice_tables}
 use Rattle.pps_put.specs.Steps.{tested}
 use Rattle.pps_write.specs.Block.{block-put, block_none, block_missing}
-use borrow.Author.Rules.{rules}
 use Rattle.pps_write.proofs.block.put_block.Goals as goal
 
 pub returns-then-p-eq0 : goal.returns-then-p-eq0

@@ -1,4 +1,3 @@
-use borrow.Author.Rules.{rules}
 use Rattle.pps_write.specs.Block.{same_set}
 use Rattle.pps_write.proofs.block.same.Goals as goal
 

@@ -1,4 +1,3 @@
-use borrow.Author.Rules.{rules}
 use Rattle.pps_write.specs.Block.{begun-nal, begun_plain}
 use Rattle.pps_write.proofs.set.begin.Goals as goal
 

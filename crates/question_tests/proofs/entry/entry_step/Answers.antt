@@ -1,4 +1,3 @@
-use borrow.Author.Rules.{rules}
 use Rattle.partition.specs.Entry.{tile_row_height}
 use Rattle.question_tests.proofs.StepLaws.{stepped}
 use Rattle.question_tests.proofs.entry.entry_step.Goals as goal

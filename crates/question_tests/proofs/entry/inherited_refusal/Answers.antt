@@ -1,4 +1,3 @@
-use borrow.Author.Rules.{rules}
 use Rattle.question_tests.proofs.EntryLaws.{inherited-made}
 use Rattle.question_tests.proofs.entry.inherited_refusal.Goals as goal
 

@@ -1,4 +1,3 @@
-use borrow.Author.Rules.{rules}
 use mathlib.Core.Path.{ap}
 use Rattle.question_tests.proofs.EntryLaws.{row-passed}
 use Rattle.tile_sizes.specs.declared.SlicesInTile.{SlicesInTile}

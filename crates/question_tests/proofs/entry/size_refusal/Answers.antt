@@ -1,4 +1,3 @@
-use borrow.Author.Rules.{rules}
 use Rattle.question_tests.proofs.EntryLaws.{size-made}
 use Rattle.question_tests.proofs.entry.size_refusal.Goals as goal
 

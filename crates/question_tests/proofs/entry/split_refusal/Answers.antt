@@ -1,4 +1,3 @@
-use borrow.Author.Rules.{rules}
 use mathlib.Core.Path.{refl}
 use Rattle.question_tests.proofs.EntryLaws.{split-made}
 use Rattle.question_tests.proofs.entry.split_refusal.Goals as goal

@@ -1,4 +1,3 @@
-use borrow.Author.Rules.{rules}
 use mathlib.Core.Path.{sym, ◌∙◌}
 use Rattle.question_tests.proofs.SlicingLaws.{before-coded, before-uncoded, twice}
 use Rattle.syntax.specs.Elements.{is_set}

@@ -1,4 +1,3 @@
-use borrow.Author.Rules.{rules}
 use Rattle.question_tests.proofs.TestLaws.{same_true}
 use Rattle.question_tests.proofs.tested.same.Goals as goal
 

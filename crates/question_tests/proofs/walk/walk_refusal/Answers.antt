@@ -1,11 +1,7 @@
-use borrow.Author.Rules.{rules}
-use Prim.Native.Nat.{◌-◌}
 use mathlib.Core.Path.{refl}
 use native.Mathlib.Omega.{arith}
-use Rattle.partition.specs.Grid.{grid_with}
-use Rattle.question_tests.specs.Refusing.{Refusing, refusing_begins, refusing_late, refusing_stops, refusing_goes-on, refusing_early, refusing_ends, from-within, part_starts, part-ends}
+use Rattle.question_tests.specs.Refusing.{refusing_begins, refusing_late, refusing_stops, refusing_goes-on, refusing_early, refusing_ends, from-within, part_starts, part-ends}
 use Rattle.grid_sizes.specs.Fronts.{tiles-few}
-use Rattle.pps_syntax.specs.SliceTables.{slice_tables}
 use Rattle.question_tests.proofs.walk.walk_refusal.Goals as goal
 
 pub loop-i-init : goal.loop-i-init

@@ -1,5 +1,4 @@
 -- The test is `delta_refused` by sign and size, and what is moved to is `tile_after_delta`.
-use borrow.Author.Rules.{rules}
 use mathlib.Core.Path.{ap, ◌∙◌}
 use lib.IntN.{nat_abs}
 use mir.Facts.{to_z-of_z}

@@ -1,6 +1,5 @@
 use borrow.Author.Rules.{rules}
 use mathlib.Core.Path.{◌∙◌}
-use borrow.Author.Tests.{not-true, not-false}
 use Rattle.slice_loop.proofs.SliceLoop.{product_fits, stays_in_row, goes-far, goes_down}
 use Rattle.slice_loop.proofs.SliceLoopCtx.default_advance.Goals as goal
 

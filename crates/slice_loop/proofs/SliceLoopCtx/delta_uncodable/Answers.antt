@@ -1,13 +1,9 @@
 -- src/lib.rt:178:13
-use borrow.Author.Rules.{rules}
 use mathlib.Core.Path.{ap, ◌∙◌}
 use lib.IntN.{nat_abs}
 use mir.Facts.{to_z-of_z}
 use Rattle.slice_loop.specs.Answers.{is_negative}
 use Rattle.slice_loop.proofs.SliceLoop.{uncodable}
-use Rattle.slice_loop.proofs.SliceLoopCtx.delta_uncodable.Reads as reads
-use Rattle.slice_loop.proofs.SliceLoopCtx.delta_uncodable.Lts as lts
-use Rattle.slice_loop.proofs.steps.signed_parts.Reads as signed-parts-reads
 use Rattle.slice_loop.proofs.SliceLoopCtx.delta_uncodable.Goals as goal
 
 pub returns : goal.returns

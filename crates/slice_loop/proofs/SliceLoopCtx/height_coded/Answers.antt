@@ -1,4 +1,3 @@
-use borrow.Author.Rules.{rules}
 use Rattle.slice_loop.proofs.SliceLoop.{coded-height}
 use Rattle.slice_loop.proofs.SliceLoopCtx.height_coded.Goals as goal
 

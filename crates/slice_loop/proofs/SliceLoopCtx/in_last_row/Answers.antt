@@ -1,4 +1,3 @@
-use borrow.Author.Rules.{rules}
 use Rattle.slice_loop.proofs.SliceLoop.{last_row}
 use Rattle.slice_loop.proofs.SliceLoopCtx.in_last_row.Goals as goal
 

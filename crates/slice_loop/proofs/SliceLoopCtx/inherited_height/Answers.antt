@@ -1,4 +1,3 @@
-use borrow.Author.Rules.{rules}
 use Rattle.slice_loop.proofs.SliceLoop.{inherits}
 use Rattle.slice_loop.proofs.SliceLoopCtx.inherited_height.Goals as goal
 

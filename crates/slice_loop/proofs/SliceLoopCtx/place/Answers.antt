@@ -1,4 +1,3 @@
-use borrow.Author.Rules.{rules}
 use mathlib.Core.Path.{refl}
 use Rattle.partition.specs.Entry.{tile_x, tile_y}
 use Rattle.slice_loop.proofs.SliceLoop.{no-columns}

@@ -1,4 +1,3 @@
-use borrow.Author.Rules.{rules}
 use Rattle.slice_loop.proofs.SliceLoop.{row-found, row_past}
 use Rattle.slice_loop.proofs.SliceLoopCtx.row_height.Goals as goal
 

@@ -1,4 +1,3 @@
-use borrow.Author.Rules.{rules}
 use Rattle.slice_loop.proofs.SliceLoop.{too_many}
 use Rattle.slice_loop.proofs.SliceLoopCtx.too_many_slices.Goals as goal
 

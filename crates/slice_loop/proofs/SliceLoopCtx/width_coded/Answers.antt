@@ -1,4 +1,3 @@
-use borrow.Author.Rules.{rules}
 use Rattle.slice_loop.proofs.SliceLoop.{coded-width}
 use Rattle.slice_loop.proofs.SliceLoopCtx.width_coded.Goals as goal
 

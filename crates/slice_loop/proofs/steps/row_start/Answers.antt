@@ -1,4 +1,3 @@
-use borrow.Author.Rules.{rules}
 use native.Mathlib.Nat.{mod-zero}
 use Rattle.slice_loop.proofs.steps.row_start.Goals as goal
 

@@ -1,6 +1,5 @@
 use mathlib.Core.Path.{sym}
 use lib.Seq.{set_out}
-use borrow.Author.Rules.{rules}
 use Rattle.tables.proofs.places.put_u32.Goals as goal
 
 pub returns-then-numbers-k : goal.returns-then-numbers-k

@@ -1,6 +1,5 @@
 use mathlib.Core.Path.{ap, ◌∙◌}
 use Rattle.tile_grid.specs.Answers.{as_tile_grid, grid_answer}
-use borrow.Author.Rules.{rules}
 use Rattle.tile_grid.proofs.TileGrid.new.Goals as goal
 
 pub returns : goal.returns

@@ -1,6 +1,5 @@
 use mathlib.Core.Path.{ap, ◌∙◌}
 use Rattle.tile_grid.specs.Answers.{as_tile_grid}
-use borrow.Author.Rules.{rules}
 use Rattle.tile_grid.proofs.TileGrid.of_record.Goals as goal
 
 pub returns : goal.returns

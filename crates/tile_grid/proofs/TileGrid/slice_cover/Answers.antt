@@ -1,7 +1,6 @@
 use Rattle.pps_syntax.specs.FromRecord.{lent}
 use Rattle.pps_syntax.specs.SliceTables.{slice_tables}
 use Rattle.tile_grid.specs.Covered.{asked_coverable}
-use borrow.Author.Rules.{rules}
 use Rattle.tile_grid.proofs.TileGrid.slice_cover.Goals as goal
 
 pub cover_placed-requires : goal.cover_placed-requires

@@ -1,4 +1,3 @@
-use borrow.Author.Rules.{rules}
 use Rattle.tile_grid.proofs.TileGrid.slice_plan.Goals as goal
 
 pub returns : goal.returns

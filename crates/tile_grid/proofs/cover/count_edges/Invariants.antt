@@ -1,7 +1,5 @@
-use borrow.Author.Rules.{rules}
 use Prim.Native.Nat.{◌-◌}
-use native.Mathlib.Omega.{arith}
-use Rattle.tile_grid.specs.Marking.{Counting, counting-begins, marking_fits, counting-goes-on, counting-ends}
+use Rattle.tile_grid.specs.Marking.{Counting}
 use Rattle.tile_grid.proofs.cover.count_edges.Given as goal
 
 abbrev pub invariant-loop-k : goal.invariant-loop-k

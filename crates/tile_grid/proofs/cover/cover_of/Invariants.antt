@@ -1,9 +1,8 @@
 use Prim.Native.Nat.{◌-◌, ◌≤◌}
-use native.Mathlib.Omega.{arith}
 use Rattle.partition.specs.Groups.{groups_at}
 use Rattle.tile_grid.specs.PlanQuestion.{cover_named}
 use Rattle.tile_grid.specs.TileGroups.{groups_from}
-use Rattle.tile_grid.specs.Seen.{RightSeen, seen_none, seen_end, seen_all}
+use Rattle.tile_grid.specs.Seen.{RightSeen}
 use Rattle.tile_grid.proofs.cover.cover_of.Given as goal
 
 abbrev pub invariant-loop-x : goal.invariant-loop-x

@@ -1,12 +1,7 @@
-use borrow.Author.Rules.{rules}
 use Prim.Native.Nat.{◌-◌}
-use native.Mathlib.Omega.{arith}
-use mathlib.Core.Path.{refl}
-use Rattle.partition.specs.Grid.{max_tiles}
 use Rattle.tile_grid.specs.PlanQuestion.{cover_named}
-use Rattle.tile_grid.specs.TileGroups.{groups_from, groups-few}
-use Rattle.tile_grid.specs.Edges.{zeros-zero}
-use Rattle.tile_grid.specs.Down.{EdgeTables, tables-made, Down, down-begins, row_inside, down_fits, down-within, down-tile, down-goes-on, down_ends}
+use Rattle.tile_grid.specs.TileGroups.{groups_from}
+use Rattle.tile_grid.specs.Down.{EdgeTables, Down}
 use Rattle.tile_grid.proofs.cover.with_column.Given as goal
 
 abbrev pub invariant-loop-y : goal.invariant-loop-y

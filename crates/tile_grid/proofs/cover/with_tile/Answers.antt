@@ -1,4 +1,3 @@
-use borrow.Author.Rules.{rules}
 use mathlib.Core.Path.{sym}
 use Rattle.tile_grid.specs.PlanQuestion.{cover_named}
 use Rattle.tile_grid.specs.Seen.{with_tile, whole-none, whole-one, whole-several, double-none, double-some}

@@ -1,5 +1,4 @@
 use native.Mathlib.Omega.{arith}
-use borrow.Author.Rules.{rules}
 use Rattle.tile_grid.proofs.place.place_group.Goals as goal
 
 pub stack-requires : goal.stack-requires

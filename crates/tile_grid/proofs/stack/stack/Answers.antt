@@ -1,6 +1,6 @@
 use Prim.Native.Nat.{◌≤◌}
 use native.Mathlib.Omega.{arith}
-use Rattle.tile_grid.specs.Stacking.{plan_tables, Stacking, stacking_begins, stacking_ends, stacking_lengths, stacking_room, stacking_goes-on, height-some, with_unit}
+use Rattle.tile_grid.specs.Stacking.{stacking_begins, stacking_ends, stacking_lengths, stacking_room, stacking_goes-on, height-some, with_unit}
 use Rattle.tile_grid.proofs.stack.stack.Goals as goal
 
 pub unit_of-unit-requires : goal.unit_of-unit-requires
@@ -51,4 +51,4 @@ pub shape_of-heights : goal.shape_of-heights
 shape_of-heights c = (stacking_lengths c.loop-remaining.invariant).3
 
 pub returns : goal.returns
-returns c =  record { next = (stacking_ends c.loop-remaining.invariant (omega (arith, c.loop-remaining-test.false))).0; tables = (stacking_ends c.loop-remaining.invariant (omega (arith, c.loop-remaining-test.false))).1 }
+returns c = record { next = (stacking_ends c.loop-remaining.invariant (omega (arith, c.loop-remaining-test.false))).0; tables = (stacking_ends c.loop-remaining.invariant (omega (arith, c.loop-remaining-test.false))).1 }

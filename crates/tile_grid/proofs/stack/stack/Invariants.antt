@@ -1,6 +1,4 @@
-use Prim.Native.Nat.{◌≤◌}
-use native.Mathlib.Omega.{arith}
-use Rattle.tile_grid.specs.Stacking.{plan_tables, Stacking, stacking_begins, stacking_ends, stacking_lengths, stacking_room, stacking_goes-on, height-some, with_unit}
+use Rattle.tile_grid.specs.Stacking.{plan_tables, Stacking}
 use Rattle.tile_grid.proofs.stack.stack.Given as goal
 
 abbrev pub invariant-loop-remaining : goal.invariant-loop-remaining

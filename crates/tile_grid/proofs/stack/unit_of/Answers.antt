@@ -1,4 +1,3 @@
-use borrow.Author.Rules.{rules}
 use native.Mathlib.Omega.{arith}
 use Rattle.tile_grid.specs.Stacking.{unit-none, unit-last, last-fits-total}
 use Rattle.tile_grid.proofs.stack.unit_of.Goals as goal

@@ -1,10 +1,9 @@
-use borrow.Author.Rules.{rules}
-use Prim.Native.Nat.{ℕ, ◌+◌, ◌-◌}
+use Prim.Native.Nat.{ℕ, ◌+◌}
 use mathlib.Core.Path.{refl}
 use native.Mathlib.Omega.{arith}
-use lib.ListN.{length, length-replicate}
+use lib.ListN.{length-replicate}
 use Rattle.partition.specs.Grid.{max_tiles}
-use Rattle.tile_grid.specs.Starts.{Starting, starting_begins, starting_fits, starting_room, starting_goes-on, starting_ends}
+use Rattle.tile_grid.specs.Starts.{starting_begins, starting_fits, starting_room, starting_goes-on, starting_ends}
 use Rattle.tile_grid.proofs.starts.starts_of.Goals as goal
 
 pub loop-i-init : goal.loop-i-init

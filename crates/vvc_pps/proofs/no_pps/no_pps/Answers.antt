@@ -1,6 +1,5 @@
 use mathlib.Core.Path.{ap}
 use Rattle.vvc_pps.specs.PpsAnswer.{zeros_beside, no_pps}
-use borrow.Author.Rules.{rules}
 use Rattle.vvc_pps.proofs.no_pps.no_pps.Goals as goal
 
 pub returns : goal.returns

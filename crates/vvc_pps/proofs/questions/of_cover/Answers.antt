@@ -1,6 +1,5 @@
 use mathlib.Core.Path.{sym, ap}
 use Rattle.vvc_pps.specs.QuestionAnswers.{cover_held}
-use borrow.Author.Rules.{rules}
 use Rattle.vvc_pps.proofs.questions.of_cover.Goals as goal
 
 pub returns-in-Refused : goal.returns-in-Refused

@@ -1,4 +1,3 @@
-use borrow.Author.Rules.{rules}
 use Rattle.vvc_pps.proofs.questions.vvc_cover.Goals as goal
 
 pub returns : goal.returns

@@ -1,6 +1,5 @@
 use mathlib.Core.Path.{ap, ◌∙◌}
 use Rattle.vvc_pps.specs.QuestionAnswers.{plan_held}
-use borrow.Author.Rules.{rules}
 use Rattle.vvc_pps.proofs.questions.vvc_slice_plan.Goals as goal
 
 pub returns : goal.returns

@@ -1,6 +1,5 @@
 use mathlib.Core.Path.{sym, ap, ◌∙◌}
 use Rattle.vvc_pps.specs.PpsAnswer.{answer_read, refused_read}
-use borrow.Author.Rules.{rules}
 use Rattle.vvc_pps.proofs.reading.of_pps_read.Goals as goal
 
 pub returns-in-Accepted : goal.returns-in-Accepted

@@ -1,5 +1,4 @@
 use Rattle.vvc_pps.specs.PpsAnswer.{read_held_lem}
-use borrow.Author.Rules.{rules}
 use Rattle.vvc_pps.proofs.reading.vvc_parse_pps.Goals as goal
 
 pub returns : goal.returns

@@ -1,5 +1,4 @@
 use Rattle.vvc_pps.specs.Answers.{written_held_lem}
-use borrow.Author.Rules.{rules}
 use Rattle.vvc_pps.proofs.writing.vvc_write_pps.Goals as goal
 
 pub returns : goal.returns
