@@ -1,6 +1,6 @@
 -- What is told of a unit: the number of its refusal, read into a work buffer of 65,536 bytes and tables of the stated
 -- lengths. What is printed beside it no contract can say.
-use Rattle.std.specs.Prelude.{ℕ, ◌≡◌, refl, Bool, true, false, cond, List, eqb, length}
+use Rattle.std.specs.Prelude.{ℕ, ◌≡◌, refl, Bool, true, false, List, eqb, length}
 use Rattle.std.proofs.Math.Path.{sym, ap}
 use Rattle.std.proofs.Common.{◌∙◌}
 use Rattle.pps_answer.specs.Answers.{answer_of}
@@ -10,7 +10,7 @@ use Rattle.pps_answer.specs.declared.PpsAnswer.{PpsAnswer}
 use Rattle.pps_answer.specs.declared.PpsAnswer.TheVariants.{Accepted, Refused}
 use Rattle.pps_answer.specs.declared.PpsRead.{PpsRead}
 use Rattle.pps_syntax.specs.FromRecord.{Lent, tables_long}
-use Rattle.pps_syntax.specs.Rbsp.{ReadAnswer, refused, read_nal, read_rbsp, rbsp_of, before_fields}
+use Rattle.pps_syntax.specs.Rbsp.{read_nal, before_fields}
 
 -- The number of a refusal, 0 where the unit is accepted.
 unfoldable pub refusal_of : PpsAnswer → ℕ
