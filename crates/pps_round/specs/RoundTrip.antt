@@ -29,6 +29,7 @@ use Rattle.pps_syntax.specs.Rbsp.{ReadSet, accepted, read_rbsp, before_fields, r
 use Rattle.pps_syntax.proofs.ReadWhole.{read_whole}
 use Rattle.pps_syntax.specs.WriteAnswers.{lent_right, write_refusal, write_bytes, WriteOutcome, wrote, write_set, write_pps, write_pps_nal}
 use Rattle.pps_syntax.specs.WrittenBack as back
+use Rattle.pps_syntax.proofs.WrittenBack.{written_back}
 use Rattle.tables.specs.Tables.{over}
 
 -- ---- an answer of writing that refuses nothing, with room for its bytes
@@ -96,17 +97,17 @@ module _ (rbsp : List ℕ) (a : ReadSet) (t : Lent) (work : List ℕ) (b : back.
   unfolding write_refusal
   unrefused =
       rw (lent-right, set-read-back, extension-back rbsp work a (read_whole rbsp a e))
-      (back.written_back rbsp a b e).accepted
+      (written_back rbsp a b e).accepted
 
   pub bytes_back : (nal : Bool)
       → write_bytes nal (record_read a) (triples_read a) (filled a.set t) (over rbsp work)
       ≡ taken_bytes rbsp a.bytes_taken nal
   unfolding write_bytes payload
   bytes_back false =
-      rw (set-read-back, extension-back rbsp work a (read_whole rbsp a e)) (back.written_back rbsp a b e).bytes
+      rw (set-read-back, extension-back rbsp work a (read_whole rbsp a e)) (written_back rbsp a b e).bytes
   bytes_back true =
       rw (set-read-back, extension-back rbsp work a (read_whole rbsp a e))
-      (ap unit_of (back.written_back rbsp a b e).bytes)
+      (ap unit_of (written_back rbsp a b e).bytes)
 
   pub written : (nal : Bool) (out bytes : List ℕ) → bytes ≡ taken_bytes rbsp a.bytes_taken nal
       → length bytes ≤ length out
