@@ -10,7 +10,7 @@ use Rattle.pps_write.specs.Runs.{own_refused, own_again, own_fits, own_copied, o
 use Rattle.pps_write.proofs.write_counted.Goals as goal
 
 pub slice_bounds-copy_front-end : goal.slice_bounds-copy_front-end
-slice_bounds-copy_front-end c = sym (length-take-le _ _ (omega (arith, c.put_set-first.auto.out)))
+slice_bounds-copy_front-end c = omega (arith, length-take-le c.in-Bytes.count c.put_set-first.new.out (omega (arith, c.put_set-first.auto.out)))
 
 pub copy_front-requires : goal.copy_front-requires
 copy_front-requires c = let a = c.args in
