@@ -5,3 +5,4 @@ pub mod ReadSteps
 pub mod Round
 pub mod StopSteps
 pub mod WriteSteps
+pub mod Steps
