@@ -26,7 +26,7 @@ use Rattle.refusal.specs.Numbers.{refused}
 use Rattle.grid_sizes.specs.declared.GridSizes.{GridSizes}
 use Rattle.grid_sizes.specs.Answers.{with_number, grid_sizes}
 use Rattle.grid_sizes.specs.Laws.{grid-number}
-use Rattle.pps_put_slices.specs.Stop.{play_on, on_none, on-append, on-check, on-refused, passed}
+use Rattle.bit_writer.specs.Stop.{play_on, on_none, on-append, on-check, on-refused, passed}
 use Rattle.pps_put_slices.specs.Sizes.{size_symbols, sizes_symbols}
 use Rattle.pps_put_slices.specs.PartsMade.{none_before}
 use Rattle.pps_put_partition.specs.Puts.{tiles_put, grid_put}

@@ -14,8 +14,9 @@ use Rattle.syntax.proofs.Elements.{flag_if}
 use Rattle.syntax.specs.Lists.{many}
 use Rattle.syntax.specs.Round.{and_parts}
 use Rattle.pps_syntax.specs.PartitionSyntax.{some, ctu_size, explicit, rect_flag, slices_minus1}
-use Rattle.pps_put_slices.specs.Stop.{play_on, on_none, on-append, on_then, on-refused, on-bits, on-check, passed}
-use Rattle.pps_put_slices.specs.StopSteps.{stops-or, tested}
+use Rattle.bit_writer.specs.Stop.{play_on, on_none, on-append, on_then, on-refused, on-bits, on-check, passed}
+use Rattle.syntax.specs.StopSteps.{tested}
+use Rattle.syntax.proofs.StopSteps.{stops-or}
 use Rattle.pps_put_slices.specs.Sizes.{sizes_symbols, many-sizes}
 use Rattle.pps_put_slices.specs.PartsMade.{none_before}
 use Rattle.pps_put_partition.specs.Puts.{tiles_put}

@@ -27,8 +27,8 @@ use Rattle.pps_syntax.specs.SliceSyntax.{RectSlice, rect_slices}
 use Rattle.pps_syntax.specs.SliceTables.{SliceTables, slices_from}
 use Rattle.grid_sizes.specs.Fronts.{grid_in, front-is, take-most}
 use Rattle.pps_syntax.specs.SliceFlags.{SliceFlags, codes}
-use Rattle.pps_put_slices.specs.Stop.{up_to_refusal, play_on, on-play, passed}
-use Rattle.pps_put_slices.specs.StopSteps.{tested}
+use Rattle.bit_writer.specs.Stop.{up_to_refusal, play_on, on-play, passed}
+use Rattle.syntax.specs.StopSteps.{tested}
 use Rattle.pps_put_partition.specs.Puts.{tiles_put, grid_put, flags_put, slices_put, rest_put, block-put, rest-refused}
 use Rattle.pps_put_partition.specs.Made.{flag_if_lem}
 use Rattle.pps_put_partition.specs.GridTests.{grid-put}

@@ -4,7 +4,7 @@ ghost use Rattle.codes.specs.Coded.{flag_bit, only_if};
 ghost use Rattle.codes.specs.Symbols.{putting};
 ghost use Rattle.bit_writer.specs.Writing.{sink_over};
 ghost use Rattle.pps_syntax.specs.PartitionSyntax.{rect_flag, slices_minus1};
-ghost use Rattle.pps_put_slices.specs.Stop.{play_on};
+ghost use Rattle.bit_writer.specs.Stop.{play_on};
 
 use bit_writer::{Sink, demand};
 use pps_put_slices::leaves::put_ue;

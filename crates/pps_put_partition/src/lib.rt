@@ -10,7 +10,7 @@ ghost use Rattle.pps_syntax.specs.FromRecord.{lent, block_from};
 ghost use Rattle.pps_syntax.specs.PartitionSyntax.{partition};
 ghost use Rattle.pps_syntax.specs.SliceTables.{slices_from};
 ghost use Rattle.pps_tables.specs.Parameters.{slices_before};
-ghost use Rattle.pps_put_slices.specs.Stop.{play_on, up_to_refusal};
+ghost use Rattle.bit_writer.specs.Stop.{play_on, up_to_refusal};
 ghost use Rattle.pps_put_partition.specs.Rest.{block_with};
 
 use bit_writer::{Sink, demand};

@@ -2,7 +2,7 @@
 ghost use Rattle.std.specs.Prelude.{◌≡◌, ◌≤◌, length};
 ghost use Rattle.bit_writer.specs.Writing.{sink_over};
 ghost use Rattle.pps_syntax.specs.PartitionSyntax.{ctu_size};
-ghost use Rattle.pps_put_slices.specs.Stop.{play_on};
+ghost use Rattle.bit_writer.specs.Stop.{play_on};
 ghost use Rattle.pps_put_partition.specs.Puts.{tiles_put};
 
 use bit_writer::{Sink, demand, put_bits};

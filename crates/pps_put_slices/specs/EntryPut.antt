@@ -14,7 +14,7 @@ use Rattle.syntax.specs.Syntax.{symbols_for}
 use Rattle.pps_syntax.specs.SliceSyntax.{RectSlice, entry_of, rect_slice, slice_split, slice_move}
 use Rattle.pps_tables.specs.declared.RectSliceEntry.{RectSliceEntry}
 use Rattle.slice_loop.specs.Loop.{LoopOver, Follows}
-use Rattle.pps_put_slices.specs.Stop.{play_on, on-refused}
+use Rattle.bit_writer.specs.Stop.{play_on, on-refused}
 use Rattle.pps_put_slices.specs.Parts.{size_in_tiles, split_symbols, last_in, move_symbols, size_step, split_step, move_step}
 use Rattle.pps_put_slices.specs.PartsMade.{none_before}
 use Rattle.pps_put_slices.specs.Moved.{Moved}

@@ -20,8 +20,8 @@ use Rattle.pps_syntax.specs.SliceTables.{SliceTables, slice_at, slices_from, spl
 use Rattle.pps_lent.specs.Tables.{split_tables, same_count}
 use Rattle.pps_syntax.specs.WalkAccepted.{turns_left, moves-on}
 use Rattle.slice_loop.specs.Loop.{position, Follows}
-use Rattle.pps_put_slices.specs.Stop.{play_on, on-append, on-refused}
-use Rattle.pps_put_slices.specs.StopSteps.{tested}
+use Rattle.bit_writer.specs.Stop.{play_on, on-append, on-refused}
+use Rattle.syntax.specs.StopSteps.{tested}
 use Rattle.pps_put_slices.specs.EntryPut.{EntryPut}
 
 module _ (g : Grid) (deltas : Bool) (N : ℕ) where

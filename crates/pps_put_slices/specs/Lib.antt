@@ -1,5 +1,3 @@
-pub mod Stop
-pub mod StopSteps
 pub mod Sizes
 pub mod Signed
 pub mod Parts

@@ -19,8 +19,8 @@ use Rattle.slice_loop.proofs.Moved.{delta-ok}
 use Rattle.syntax.specs.Elements.{is_set}
 use Rattle.syntax.specs.Round.{and_parts}
 use Rattle.pps_syntax.specs.SameTests.{not-under, twice}
-use Rattle.pps_put_slices.specs.Stop.{play_on, on_then, passed}
-use Rattle.pps_put_slices.specs.StopSteps.{tested}
+use Rattle.bit_writer.specs.Stop.{play_on, on_then, passed}
+use Rattle.syntax.specs.StopSteps.{tested}
 use Rattle.pps_put_slices.specs.Parts.{move_symbols}
 
 -- From w to v the way to the next tile is put; unless that is refused, slice index and tile are the next entry's. The slice index is held to N, and behind the

@@ -18,8 +18,8 @@ use Rattle.tile_sizes.specs.Laws.{slices-count}
 use Rattle.tile_sizes.proofs.Split.{slices-ok}
 use Rattle.syntax.specs.Elements.{is_set}
 use Rattle.partition.specs.Checks.{not_past}
-use Rattle.pps_put_slices.specs.Stop.{play_on, on_then, on-refused, passed}
-use Rattle.pps_put_slices.specs.StopSteps.{tested}
+use Rattle.bit_writer.specs.Stop.{play_on, on_then, on-refused, passed}
+use Rattle.syntax.specs.StopSteps.{tested}
 use Rattle.pps_put_slices.specs.Sizes.{size_symbols, sizes_symbols}
 use Rattle.pps_put_slices.specs.Parts.{size_in_tiles, heights_symbols, split_symbols, last_in}
 

@@ -7,7 +7,7 @@ use Rattle.codes.specs.Coded.{se_symbols}
 use Rattle.codes.specs.ExpGolomb.{code_num, se_code}
 use Rattle.codes.specs.Symbols.{check}
 use Rattle.bit_writer.specs.Writing.{Writing, play}
-use Rattle.pps_put_slices.specs.Stop.{play_on, stopped, went_on}
+use Rattle.bit_writer.specs.Stop.{play_on, stopped, went_on}
 
 pub se-codable : (z v : ℤ) → SFits w32 v → z ≡ v → le_z (negsuc 2147483646) z ≡ ltb (code_num v) 4294967295
 unfolding code_num

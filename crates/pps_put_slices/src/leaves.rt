@@ -2,7 +2,7 @@
 ghost use Rattle.std.specs.Prelude.{◌≡◌};
 ghost use Rattle.codes.specs.Coded.{ue_symbols};
 ghost use Rattle.bit_writer.specs.Writing.{sink_over};
-ghost use Rattle.pps_put_slices.specs.Stop.{play_on};
+ghost use Rattle.bit_writer.specs.Stop.{play_on};
 ghost use Rattle.pps_put_slices.specs.Sizes.{size_symbols, sizes_symbols};
 
 use bit_writer::Sink;

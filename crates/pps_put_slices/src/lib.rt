@@ -9,7 +9,7 @@ ghost use Rattle.partition.specs.Entry.{first_position};
 ghost use Rattle.pps_syntax.specs.SliceSyntax.{rect_slices};
 ghost use Rattle.pps_syntax.specs.SliceTables.{slices_from};
 ghost use Rattle.pps_tables.specs.Parameters.{slices_before};
-ghost use Rattle.pps_put_slices.specs.Stop.{play_on};
+ghost use Rattle.bit_writer.specs.Stop.{play_on};
 
 use bit_writer::Sink;
 use grid_sizes::GridSizes;

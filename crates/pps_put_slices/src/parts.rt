@@ -6,7 +6,7 @@ ghost use Rattle.codes.specs.Coded.{ue_symbols, se_symbols, only_if};
 ghost use Rattle.codes.specs.Symbols.{check};
 ghost use Rattle.bit_writer.specs.Writing.{sink_over};
 ghost use Rattle.syntax.specs.Elements.{is_set};
-ghost use Rattle.pps_put_slices.specs.Stop.{play_on};
+ghost use Rattle.bit_writer.specs.Stop.{play_on};
 ghost use Rattle.pps_put_slices.specs.Parts.{size_in_tiles, split_symbols, last_in};
 ghost use Rattle.pps_put_slices.specs.Moved.{Moved};
 

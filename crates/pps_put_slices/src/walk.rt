@@ -6,7 +6,7 @@ ghost use Rattle.partition.specs.Grid.{grid_with, max_tile_columns, max_tiles};
 ghost use Rattle.pps_syntax.specs.SliceSyntax.{rect_slices};
 ghost use Rattle.pps_syntax.specs.SliceTables.{slices_from};
 ghost use Rattle.pps_tables.specs.Parameters.{slices_before};
-ghost use Rattle.pps_put_slices.specs.Stop.{play_on};
+ghost use Rattle.bit_writer.specs.Stop.{play_on};
 
 use super::entry::put_rect_slice;
 use bit_writer::{Sink, demand};

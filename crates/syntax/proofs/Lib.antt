@@ -3,4 +3,5 @@ pub mod Examples
 pub mod Once
 pub mod ReadSteps
 pub mod Round
+pub mod StopSteps
 pub mod WriteSteps

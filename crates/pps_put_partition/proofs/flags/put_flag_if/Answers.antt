@@ -1,5 +1,5 @@
 use Rattle.pps_put_partition.specs.Made.{flag-on}
-use Rattle.pps_put_slices.specs.Stop.{on-refused}
+use Rattle.bit_writer.specs.Stop.{on-refused}
 use mathlib.Core.Path.{sym}
 use Rattle.pps_put_partition.proofs.flags.put_flag_if.Goals as goal
 

@@ -1,5 +1,5 @@
-use Rattle.pps_put_slices.specs.StopSteps.{tested}
-use Rattle.pps_put_slices.specs.Stop.{on_then}
+use Rattle.syntax.specs.StopSteps.{tested}
+use Rattle.bit_writer.specs.Stop.{on_then}
 use mathlib.Core.Path.{refl}
 use Rattle.pps_put_slices.proofs.leaves.put_size.Goals as goal
 

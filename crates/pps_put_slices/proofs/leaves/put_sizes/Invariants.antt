@@ -1,5 +1,5 @@
 use Rattle.pps_put_slices.specs.Sizes.{sizes_symbols}
-use Rattle.pps_put_slices.specs.Stop.{play_on}
+use Rattle.bit_writer.specs.Stop.{play_on}
 use Rattle.bit_writer.specs.Writing.{sink_over}
 use lib.ListN.{length, drop}
 use mathlib.Core.Path.{◌≡◌}

@@ -1,4 +1,4 @@
-use Rattle.pps_put_slices.specs.Stop.{stopped, went_on}
+use Rattle.bit_writer.specs.Stop.{stopped, went_on}
 use lib.Dec.{lit<}
 use Rattle.pps_put_slices.proofs.leaves.put_ue.Goals as goal
 

@@ -1,4 +1,4 @@
-use Rattle.pps_put_slices.specs.StopSteps.{only-on, only-off}
+use Rattle.syntax.specs.StopSteps.{only-on, only-off}
 use Rattle.pps_put_slices.proofs.parts.put_ue_if.Goals as goal
 
 pub returns-then-on : goal.returns-then-on
