@@ -1,5 +1,5 @@
 -- Laws of what a reader gives.
-use Rattle.std.specs.Prelude.{ℕ, ◌%◌, ◌≤◌, ◌<◌, ◌≡◌, List, Bool, true, false, Result, Ok, Err, ℤ, refl}
+use Rattle.std.specs.Prelude.{ℕ, ◌%◌, ◌≤◌, ◌<◌, ◌≡◌, List, Bool, true, false, Result, Ok, Err, IfOk, ℤ, refl}
 use Rattle.std.specs.Result.{IsErrAnd}
 use Rattle.std.proofs.Common.{Bor, sym, subst, ap, ◌∙◌, arith, pow_mono, mod-eq_of_lt}
 use Rattle.std.proofs.lemmas.Result.{err_from_is_err_and}
@@ -10,7 +10,7 @@ use Rattle.refusal.proofs.Numbers.{number_above0}
 use Rattle.bit_reader.specs.declared.BitReader.{BitReader}
 use Rattle.bit_reader.specs.declared.Cursor.{Cursor}
 use Rattle.bit_reader.specs.Reading.{refusal, demanded, se_read}
-use Rattle.bit_reader.specs.Gives.{Parsed, parsed, cursor_of, Gives, u_parsed, ue_parsed, se_parsed, tested}
+use Rattle.bit_reader.specs.Gives.{Parsed, parsed, cursor_of, Gives, u_parsed, ue_parsed, se_parsed, tested, held_as}
 use Rattle.bit_reader.specs.Laws.{u-below, ue-small, demanded-true, demanded-false, demanded-refused}
 
 module _ {A : Type 0} {read : List ℕ → Cursor → Parsed A} {p q : BitReader} where
@@ -36,6 +36,15 @@ module _ {A : Type 0} {read : List ℕ → Cursor → Parsed A} {p q : BitReader
   pub over : {b : Bor (List ℕ)} {x : Result A Refusal} → p.bytes ≡ b → Gives read p q x → Gives read (record { bytes = b; bit_pos = p.bit_pos }) q x
   over {b} {x} e g = subst (λ (y : Bor (List ℕ)). Gives read (record { bytes = y; bit_pos = p.bit_pos }) q x) e g
 
+  -- read in another way that comes to the same
+  pub same-read : {other : List ℕ → Cursor → Parsed A} {x : Result A Refusal} → read p.bytes.now (cursor_of p) ≡ other p.bytes.now (cursor_of p) → Gives read p q x → Gives other p q x
+  same-read {other} {x} e g =
+      record {
+        bytes = g.bytes;
+        next = ap (λ (r : Parsed A). r.next) (sym e) ∙ g.next;
+        value = subst (λ (r : Parsed A). IfOk x (λ v. r.value ≡ v)) e g.value;
+      }
+
   -- the exit of a `?`
   pub at_exit : {x : Result A Refusal} {e : Refusal} → IsErrAnd x (λ y. y ≡ e) → Gives read p q (Err e) → Gives read p q x
   at_exit {x} h g = let y = err_from_is_err_and x h in rw (y.1, y.2) g
@@ -43,6 +52,16 @@ module _ {A : Type 0} {read : List ℕ → Cursor → Parsed A} {p q : BitReader
 -- a refusal's number is not 0
 pub not-0 : (e : Refusal) {c : Cursor} (at : ℕ) → record { at = at; refused = number e } ≡ c → c.refused ≡ 0 → ⊥
 not-0 e at h o = omega (arith, number_above0 e, ap (λ (d : Cursor). d.refused) h)
+
+-- a value held as another
+module _ {A B : Type 0} (f : A → B) {read : List ℕ → Cursor → Parsed A} {p q : BitReader} where
+  pub holds : {v : A} {w : B} → Gives read p q (Ok v) → w ≡ f v → Gives (held_as f read) p q (Ok w)
+  unfolding refused
+  holds g e = record { bytes = g.bytes; next = g.next; value = ap f g.value ∙ sym e }
+
+  pub holds-none : {e : Refusal} → Gives read p q (Err e) → Gives (held_as f read) p q (Err e)
+  unfolding refused
+  holds-none g = record { bytes = g.bytes; next = g.next; value = tt }
 
 -- a test of the value
 module _ {A : Type 0} {read : List ℕ → Cursor → Parsed A} (ok : A → Bool) (n : ℕ) {p q : BitReader} where

@@ -1,5 +1,5 @@
 // Single fields: with a limit (H.266 7.4.3.5), or coded under a condition alone and else inferred.
-ghost use Rattle.std.specs.Prelude.{◌≡◌, ◌<◌, Ok, ℕ, leb, ltb};
+ghost use Rattle.std.specs.Prelude.{◌≡◌, ◌≤◌, ◌<◌, Ok, IfOk, ℕ, leb, ltb};
 ghost use Rattle.refusal.specs.Numbers.{number};
 ghost use Rattle.bit_reader.specs.Gives.{Gives, tested, ue_parsed};
 ghost use Rattle.syntax.specs.Elements.{flag, ue, se, limited, sameℕ, sameℤ, or_else};
@@ -29,7 +29,8 @@ pub fn se_or(r: &mut BitReader<'_>, on: bool, inferred: i32) -> Result<i32, Refu
 
 // ue(v) of at most `limit`.
 pub fn ue_at_most(r: &mut BitReader<'_>, limit: u32, refusal: Refusal) -> Result<u32, Refusal>
-    ensures { Gives (tested (λ v. leb v limit) (number refusal) ue_parsed) r.old r.new result }
+    ensures value { Gives (tested (λ v. leb v limit) (number refusal) ue_parsed) r.old r.new result }
+    ensures limit { IfOk result (λ v. v ≤ limit) }
 {
     let v = r.ue()?;
     if v > limit {
@@ -45,9 +46,10 @@ pub fn ue_at_most_or(
     limit: u32,
     refusal: Refusal,
 ) -> Result<u32, Refusal>
-    ensures { (n : ℕ) (l : 0 < number refusal)
+    ensures value { (n : ℕ) (l : 0 < number refusal)
         → Gives (or_else on (limited ue (λ v. leb v limit) (number refusal) l) (absent sameℕ 0 n)).read
         r.old r.new result }
+    ensures limit { IfOk result (λ v. v ≤ limit) }
 {
     if on {
         ue_at_most(r, limit, refusal)
@@ -58,7 +60,8 @@ pub fn ue_at_most_or(
 
 // ue(v) below `bound`.
 pub fn ue_below(r: &mut BitReader<'_>, bound: u32, refusal: Refusal) -> Result<u32, Refusal>
-    ensures { Gives (tested (λ v. ltb v bound) (number refusal) ue_parsed) r.old r.new result }
+    ensures value { Gives (tested (λ v. ltb v bound) (number refusal) ue_parsed) r.old r.new result }
+    ensures bound { IfOk result (λ v. v < bound) }
 {
     let v = r.ue()?;
     if v >= bound {

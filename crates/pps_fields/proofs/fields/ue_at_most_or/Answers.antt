@@ -5,8 +5,8 @@ use Rattle.syntax.specs.Elements.{ue, limited}
 use Rattle.syntax.proofs.Steps.{coded, uncoded}
 use Rattle.pps_fields.proofs.fields.ue_at_most_or.Goals as goal
 
-pub returns-then-on : goal.returns-then-on
-returns-then-on c = λ n l. coded _ (limited ue (λ v. leb v c.args.limit) _ l) _ c.if-on.true c.ue_at_most.ensures
+pub returns-then-on-clause-value : goal.returns-then-on-clause-value
+returns-then-on-clause-value c = λ n l. coded _ (limited ue (λ v. leb v c.args.limit) _ l) _ c.if-on.true c.ue_at_most.ensures.value
 
-pub returns-else-on : goal.returns-else-on
-returns-else-on c = λ n l. uncoded _ _ _ c.if-on.false (given refl refl)
+pub returns-else-on-clause-value : goal.returns-else-on-clause-value
+returns-else-on-clause-value c = λ n l. uncoded _ _ _ c.if-on.false (given refl refl)

@@ -9,19 +9,19 @@ pub loop-i-init : goal.loop-i-init
 loop-i-init c = pass-begins
 
 pub returns-in_err-v-clause-axis : goal.returns-in_err-v-clause-axis
-returns-in_err-v-clause-axis c = at_exit c.from_residual.ensures.1 (pass-stops c.loop-i.invariant c.loop-i-test.true c.in_err-v.ensures).0
+returns-in_err-v-clause-axis c = at_exit c.from_residual.ensures.1 (pass-stops c.loop-i.invariant c.loop-i-test.true c.in_err-v.ensures.value).0
 
 pub returns-in_err-v-clause-table : goal.returns-in_err-v-clause-table
-returns-in_err-v-clause-table c = (pass-stops c.loop-i.invariant c.loop-i-test.true c.in_err-v.ensures).1
+returns-in_err-v-clause-table c = (pass-stops c.loop-i.invariant c.loop-i-test.true c.in_err-v.ensures.value).1
 
 pub overflow_add-uniform : goal.overflow_add-uniform
-overflow_add-uniform c = omega (arith, size_small c.loop-i.invariant c.in_ok-v.ensures)
+overflow_add-uniform c = omega (arith, size_small c.loop-i.invariant c.in_ok-v.ensures.value)
 
 pub overflow_add-taken : goal.overflow_add-taken
-overflow_add-taken c = omega (arith, c.from-taken.ensures, pass-small c.loop-i.invariant, size_small c.loop-i.invariant c.in_ok-v.ensures)
+overflow_add-taken c = omega (arith, c.from-taken.ensures, pass-small c.loop-i.invariant, size_small c.loop-i.invariant c.in_ok-v.ensures.value)
 
 pub loop-i-preserved : goal.loop-i-preserved
-loop-i-preserved c = pass-more c.loop-i.invariant c.loop-i-test.true c.in_ok-v.ensures c.store.ensures c.from-taken.ensures
+loop-i-preserved c = pass-more c.loop-i.invariant c.loop-i-test.true c.in_ok-v.ensures.value c.store.ensures c.from-taken.ensures
 
 pub axis_read-requires : goal.axis_read-requires
 axis_read-requires c = omega (arith, pass-few c.loop-i.invariant, c.loop-i-test.false)
