@@ -53,7 +53,7 @@ ids-coded on num len {count} {p} e h g =
     same-read (ap (λ (n : ℕ). (many count (u n 27) 27).read p.bytes.now (cursor_of p)) bits ∙ many-counted on num count (u (suc (min len 15)) 27) 27 0 p.bytes.now (cursor_of p) e) g
 
 -- ---- the mapping, its ids in the table
-ids-behind : (partitioned : Bool) (s : List ℕ) (c : Cursor) → ((parse (subpic_ids partitioned) s c).next.refused ≡ 0 → ⊥) → (parse (subpic_ids partitioned) s c).value.pps_subpic_id ≡ []
+pub ids-behind : (partitioned : Bool) (s : List ℕ) (c : Cursor) → ((parse (subpic_ids partitioned) s c).next.refused ≡ 0 → ⊥) → (parse (subpic_ids partitioned) s c).value.pps_subpic_id ≡ []
 unfolding subpic_ids parse ◌>>=◌
 ids-behind partitioned s c h = list-empty _ _ _ s _ h
 
