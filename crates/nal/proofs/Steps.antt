@@ -1,7 +1,6 @@
 -- One turn of a loop over the bytes s, at the place i: what unescaping and escaping make of the rest from there.
 use Prim.Native.Nat.{ℕ, ◌+◌, ◌≤◌, ◌<◌}
 use native.Mathlib.Numerals.{add-one}
-use native.Mathlib.Omega.{arith}
 use mathlib.Core.Bool.{true, false}
 use mathlib.Core.List.{List, [], ◌∷◌}
 use mathlib.Core.Path.{◌≡◌, ◌∙◌}
@@ -33,9 +32,9 @@ module _ (s : List ℕ) (z i : ℕ) (inside : i < length s) where
   escape-over h = at_byte (escape_from z) ∙ escape_from-over z (get_or s i 0) _ h
 
 -- after the last byte
-module _ (s : List ℕ) (z i : ℕ) (inside : i ≤ length s) (over : length s ≤ i) where
+module _ (s : List ℕ) (z i : ℕ) (over : i ≡ length s) where
   at-end : (f : List ℕ → List ℕ) → f (drop i s) ≡ f []
-  at-end f = let e : i ≡ length s = omega arith in rw (e, drop-length s)
+  at-end f = rw (over, drop-length s)
 
   pub unescape-end : unescape_from z (drop i s) ≡ []
   unescape-end = at-end (unescape_from z) ∙ unescape_from-end z

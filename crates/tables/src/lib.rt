@@ -6,13 +6,17 @@ ghost use Rattle.tables.specs.Tables.{blank};
 
 pub mod places;
 
-// Every place of the table becomes 0.
+// Every place of the table becomes v. (What std's `fill` promises of arrays leaves their length open.)
+pub fn clear<T: Copy>(table: &mut [T], v: T)
+    ensures { table.new ≡ blank (length table.old) v }
+{
+    for place in table.iter_mut() {
+        *place = v;
+    }
+}
+
 pub fn clear_u32(table: &mut [u32])
     ensures { table.new ≡ blank (length table.old) 0 }
 {
-    let mut i = 0;
-    while i < table.len() {
-        table[i] = 0u32;
-        i += 1;
-    }
+    clear(table, 0);
 }

@@ -5,16 +5,19 @@ ghost use Rattle.std.specs.Prelude.{◌≡◌, min, set};
 pub fn at_most(n: u32, len: usize) -> usize
     ensures { result ≡ min n len }
 {
-    let m = n as usize;
-    if m < len { m } else { len }
+    len.min(n as usize)
+}
+
+pub fn put<T: Copy>(table: &mut [T], at: usize, value: T)
+    ensures { table.new ≡ set table.old at value }
+{
+    if at < table.len() {
+        table[at] = value;
+    }
 }
 
 pub fn put_u32(numbers: &mut [u32], i: u32, v: u32)
     ensures { numbers.new ≡ set numbers.old i v }
 {
-    let k = i as usize;
-    if numbers.len() <= k {
-        return;
-    }
-    numbers[k] = v;
+    put(numbers, i as usize, v);
 }
