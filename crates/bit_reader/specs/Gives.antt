@@ -32,6 +32,10 @@ pub record Gives {A : Type 0} (read : List ℕ → Cursor → Parsed A) (from to
   pub next : (read from.bytes.now (cursor_of from)).next ≡ record { at = to.bit_pos; refused = refused x }
   pub value : IfOk x (λ v. (read from.bytes.now (cursor_of from)).value ≡ v)
 
+-- the value alone
+abbrev pub value_read : {A : Type 0} → (List ℕ → Cursor → Parsed A) → BitReader → A
+value_read read from = (read from.bytes.now (cursor_of from)).value
+
 -- ---- the readers
 abbrev pub u_parsed : ℕ → List ℕ → Cursor → Parsed ℕ
 u_parsed n s c = bits_parsed (u_read s c n)
