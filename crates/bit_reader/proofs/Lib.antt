@@ -1,1 +1,4 @@
 pub mod Words
+pub mod Gives
+pub mod ByCursor
+pub mod Stuck

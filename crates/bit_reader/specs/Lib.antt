@@ -1,6 +1,7 @@
 pub mod Reading
+pub mod Gives
 pub mod Laws
-pub mod Extension
 pub mod ReadBack
 pub mod Took
+pub mod Extension
 pub mod Examples

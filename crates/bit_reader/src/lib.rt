@@ -1,18 +1,28 @@
-// Reading bits (H.266 7.2, 9.2) over a byte slice and a cursor by value. A refusal sticks: once there is one, every
-// reader gives 0 and leaves the cursor as it is, so that code above is a straight line and the first refusal wins.
+// Reading bits (H.266 7.2, 9.2) over a byte slice. Past the end there are 0 bits, and the place stays at the end.
 #![tactic(auto)]
 
-ghost use Rattle.std.specs.Prelude.{◌≡◌, ◌+◌, ◌-◌, ◌*◌, ◌/◌, ◌^◌, ◌≤◌, ◌<◌, min};
+ghost use Rattle.std.specs.Prelude.{◌≡◌, ◌+◌, ◌-◌, ◌*◌, ◌/◌, ◌^◌, ◌≤◌, ◌<◌, Ok, min};
 ghost use Rattle.codes.specs.Bytes.{bit_count, bit_at, bits_at};
 ghost use Rattle.codes.specs.ExpGolomb.{signed_of};
-ghost use Rattle.bit_reader.specs.Reading.{onward, zeros_at, u_read, byte_read, ue_read, se_read, trailing_read};
+ghost use Rattle.bit_reader.specs.Gives.{Gives, u_parsed, ue_parsed, se_parsed, trailing_parsed};
+ghost use Rattle.bit_reader.specs.Reading.{onward, zeros_at};
 ghost use Rattle.bit_reader.specs.Extension.{more_rbsp_data, extension_bits};
 
+use refusal::Refusal;
+
+pub mod by_cursor;
 pub mod guarded;
 
-// The place of the next bit, counted from the high bit of the first byte, and the number of the first refusal (0:
-// none). It is handed on field by field: a copy of the whole moves its padding too, and in a loop those moves wait for
-// each other.
+pub use by_cursor::{flag, rbsp_trailing_bits, se, small_u, u, ue};
+
+// Reads from bit `bit_pos` on, counted from the high bit of the first byte.
+#[derive(Clone, Copy)]
+pub struct BitReader<'a> {
+    pub bytes: &'a [u8],
+    pub bit_pos: usize,
+}
+
+// A place and the number of the first refusal (0: none), as they cross the C interface.
 #[repr(C)]
 #[derive(Clone, Copy)]
 pub struct Cursor {
@@ -39,12 +49,6 @@ pub struct ByteRead {
 pub struct SignedRead {
     pub value: i32,
     pub next: Cursor,
-}
-
-fn wide(x: u8) -> u32
-    ensures { result ≡ x }
-{
-    x as u32
 }
 
 // The number of bits that can be read.
@@ -90,113 +94,11 @@ fn bits_from(s: &[u8], at: usize, n: u32) -> u32
     ensures { result ≡ bits_at s.now at n }
 {
     let mut value: u32 = 0;
-    let mut i: u32 = 0;
-    while i < n {
-        let b = wide(bit_at(s, at + (i as usize)));
+    for i in 0..n {
+        let b = u32::from(bit_at(s, at + (i as usize)));
         value = value * 2 + b;
-        i += 1;
     }
     value
-}
-
-fn at_most_32(n: u32) -> u32
-    ensures { result ≡ min n 32 }
-{
-    if n <= 32 {
-        return n;
-    }
-    32
-}
-
-// u(n); more than 32 bits are read as 32.
-pub fn u(s: &[u8], c: Cursor, n: u32) -> BitsRead
-    ensures { result ≡ u_read s.now c (min n 32) }
-{
-    if c.refused != 0 {
-        return BitsRead {
-            value: 0,
-            next: Cursor {
-                at: c.at,
-                refused: c.refused,
-            },
-        };
-    }
-    let at = c.at;
-    let end = bit_count(s);
-    if at >= end {
-        return BitsRead {
-            value: 0,
-            next: Cursor {
-                at: c.at,
-                refused: c.refused,
-            },
-        };
-    }
-    let m = at_most_32(n);
-    let next = move_on(s, at, m as usize);
-    let value = bits_from(s, at, m);
-    BitsRead {
-        value,
-        next: Cursor {
-            at: next,
-            refused: 0,
-        },
-    }
-}
-
-// u(n) of at most 8 bits; more are read as 8.
-pub fn small_u(s: &[u8], c: Cursor, n: u32) -> ByteRead
-    ensures { result ≡ byte_read s.now c (min n 8) }
-{
-    let m = at_most_8(n);
-    let b = u(s, c, m);
-    let next = b.next;
-    ByteRead {
-        value: (b.value % 256) as u8,
-        next,
-    }
-}
-
-fn at_most_8(n: u32) -> u32
-    ensures { result ≡ min n 8 }
-{
-    if n <= 8 {
-        return n;
-    }
-    8
-}
-
-// u(1), by itself for speed.
-pub fn flag(s: &[u8], c: Cursor) -> ByteRead
-    ensures { result ≡ byte_read s.now c 1 }
-{
-    if c.refused != 0 {
-        return ByteRead {
-            value: 0,
-            next: Cursor {
-                at: c.at,
-                refused: c.refused,
-            },
-        };
-    }
-    let at = c.at;
-    let end = bit_count(s);
-    if at >= end {
-        return ByteRead {
-            value: 0,
-            next: Cursor {
-                at: c.at,
-                refused: c.refused,
-            },
-        };
-    }
-    ByteRead {
-        value: bit_at(s, at),
-        next: Cursor {
-            at: at + 1,
-            refused: 0,
-        },
-    }
 }
 
 // The run of zero bits, at most 32.
@@ -205,8 +107,7 @@ fn zeros_from(s: &[u8], at: usize) -> usize
     ensures { result ≡ zeros_at s.now at 32 }
 {
     let end = bit_count(s);
-    let mut k: usize = 0;
-    while k < 32 {
+    for k in 0..32 {
         let p = at + k;
         if p >= end {
             return k;
@@ -214,59 +115,8 @@ fn zeros_from(s: &[u8], at: usize) -> usize
         if bit_at(s, p) == 1 {
             return k;
         }
-        k += 1;
     }
-    k
-}
-
-fn pow2(z: usize) -> u32
-    requires { z < 32 }
-    ensures { result ≡ 2 ^ z }
-{
-    1u32 << z
-}
-
-// ue(v); 32 leading zeros are refused with 6.
-pub fn ue(s: &[u8], c: Cursor) -> BitsRead
-    ensures { result ≡ ue_read s.now c }
-{
-    if c.refused != 0 {
-        return BitsRead {
-            value: 0,
-            next: Cursor {
-                at: c.at,
-                refused: c.refused,
-            },
-        };
-    }
-    let at = c.at;
-    let end = bit_count(s);
-    if at >= end {
-        return BitsRead {
-            value: 0,
-            next: Cursor {
-                at: c.at,
-                refused: c.refused,
-            },
-        };
-    }
-    let z = zeros_from(s, at);
-    if z >= 32 {
-        return BitsRead {
-            value: 0,
-            next: Cursor { at, refused: 6 },
-        };
-    }
-    let suffix = bits_from(s, at + z + 1, z as u32);
-    let next = move_on(s, at, z * 2 + 1);
-    let value = pow2(z) - 1 + suffix;
-    BitsRead {
-        value,
-        next: Cursor {
-            at: next,
-            refused: 0,
-        },
-    }
+    32
 }
 
 // The signed value of a code number.
@@ -278,47 +128,6 @@ fn signed_of(k: u32) -> i32
         return (k / 2 + 1) as i32;
     }
     -((k / 2) as i32)
-}
-
-// se(v).
-pub fn se(s: &[u8], c: Cursor) -> SignedRead
-    ensures { result ≡ se_read s.now c }
-{
-    let k = ue(s, c);
-    let next = k.next;
-    SignedRead {
-        value: signed_of(k.value),
-        next,
-    }
-}
-
-// rbsp_trailing_bits(): 22 with no bit left, 23 for a stop bit 0 or an alignment bit 1.
-pub fn rbsp_trailing_bits(s: &[u8], c: Cursor) -> Cursor
-    ensures { result ≡ trailing_read s.now c }
-{
-    if c.refused != 0 {
-        return Cursor {
-            at: c.at,
-            refused: c.refused,
-        };
-    }
-    let at = c.at;
-    let end = bit_count(s);
-    if at >= end {
-        return Cursor { at, refused: 22 };
-    }
-    if bit_at(s, at) != 1 {
-        return Cursor { at, refused: 23 };
-    }
-    let rest = 7 - at % 8;
-    if bits_from(s, at + 1, rest as u32) != 0 {
-        return Cursor { at, refused: 23 };
-    }
-    let after = at / 8 * 8 + 8;
-    Cursor {
-        at: after,
-        refused: 0,
-    }
 }
 
 // How many bits are taken while more_rbsp_data() holds: those up to the last 1 bit but one, found by one scan from the
@@ -348,4 +157,99 @@ pub fn more_rbsp_data(s: &[u8], at: usize) -> bool
     ensures { result ≡ more_rbsp_data s.now at }
 {
     extension_bits(s, at) != 0
+}
+
+impl<'a> BitReader<'a> {
+    // u(n); more than 32 bits are read as 32.
+    pub fn u(&mut self, n: u32) -> u32
+        ensures { Gives (u_parsed (min n 32)) self.old self.new (Ok result) }
+    {
+        let at = self.bit_pos;
+        let end = bit_count(self.bytes);
+        if at >= end {
+            return 0;
+        }
+        let m = n.min(32);
+        self.bit_pos = move_on(self.bytes, at, m as usize);
+        bits_from(self.bytes, at, m)
+    }
+
+    // u(n) of at most 8 bits; more are read as 8.
+    pub fn small_u(&mut self, n: u32) -> u8
+        ensures { Gives (u_parsed (min n 8)) self.old self.new (Ok result) }
+    {
+        let v = self.u(n.min(8));
+        (v % 256) as u8
+    }
+
+    // u(1), by itself for speed.
+    pub fn flag(&mut self) -> u8
+        ensures { Gives (u_parsed 1) self.old self.new (Ok result) }
+    {
+        let at = self.bit_pos;
+        let end = bit_count(self.bytes);
+        if at >= end {
+            return 0;
+        }
+        self.bit_pos = at + 1;
+        bit_at(self.bytes, at)
+    }
+
+    // ue(v).
+    pub fn ue(&mut self) -> Result<u32, Refusal>
+        ensures { Gives ue_parsed self.old self.new result }
+    {
+        let at = self.bit_pos;
+        let end = bit_count(self.bytes);
+        if at >= end {
+            return Ok(0);
+        }
+        let z = zeros_from(self.bytes, at);
+        if z >= 32 {
+            return Err(Refusal::UeTooLong);
+        }
+        let suffix = bits_from(self.bytes, at + z + 1, z as u32);
+        self.bit_pos = move_on(self.bytes, at, z * 2 + 1);
+        Ok((1u32 << z) - 1 + suffix)
+    }
+
+    // se(v).
+    pub fn se(&mut self) -> Result<i32, Refusal>
+        ensures { Gives se_parsed self.old self.new result }
+    {
+        let k = self.ue()?;
+        Ok(signed_of(k))
+    }
+
+    // rbsp_trailing_bits(): a 1, then zeros up to the next byte.
+    pub fn rbsp_trailing_bits(&mut self) -> Result<(), Refusal>
+        ensures { Gives trailing_parsed self.old self.new result }
+    {
+        let at = self.bit_pos;
+        let end = bit_count(self.bytes);
+        if at >= end {
+            return Err(Refusal::NoStopBit);
+        }
+        if bit_at(self.bytes, at) != 1 {
+            return Err(Refusal::TrailingBits);
+        }
+        let rest = 7 - at % 8;
+        if bits_from(self.bytes, at + 1, rest as u32) != 0 {
+            return Err(Refusal::TrailingBits);
+        }
+        self.bit_pos = at / 8 * 8 + 8;
+        Ok(())
+    }
+
+    pub fn extension_bits(&self) -> usize
+        ensures { result ≡ extension_bits self.now.bytes.now self.now.bit_pos }
+    {
+        extension_bits(self.bytes, self.bit_pos)
+    }
+
+    pub fn more_rbsp_data(&self) -> bool
+        ensures { result ≡ more_rbsp_data self.now.bytes.now self.now.bit_pos }
+    {
+        more_rbsp_data(self.bytes, self.bit_pos)
+    }
 }

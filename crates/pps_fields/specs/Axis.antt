@@ -1,34 +1,32 @@
 -- The sizes of an axis, counted while the explicit ones are read (H.266 6.5.1, equations 14, 15 and 21).
-use Rattle.std.specs.Prelude.{ℕ, suc, ◌+◌, ◌-◌, ◌*◌, ◌≤◌, ◌<◌, ◌≡◌, true, false, ltb, leb, set}
-use Rattle.std.proofs.Math.Path.{refl, ap}
+use Rattle.std.specs.Prelude.{ℕ, suc, ◌+◌, ◌-◌, ◌*◌, ◌≤◌, ◌<◌, ◌≡◌, true, false, leb, set, Ok, Err}
+use Rattle.std.proofs.Math.Path.{refl}
+use Rattle.std.proofs.Common.{ap₂}
 use Rattle.std.proofs.Common.{sym, ◌∙◌, sub-eq-zero_of_le, add-one, arith}
 use mathlib.Core.List.{List, [], ◌∷◌}
 use Rattle.std.proofs.Math.Nat.{sub-zero}
 use Rattle.std.proofs.Math.ListN.{length}
 use Rattle.std.proofs.lemmas.List.Edits.{sets}
 use borrow.Author.Tests.{le-leb, lt-leb}
-use Rattle.bit_reader.specs.declared.Cursor.{Cursor}
-use Rattle.bit_reader.specs.declared.BitsRead.{BitsRead}
-use Rattle.bit_reader.specs.Reading.{ue_read}
+use Rattle.refusal.specs.declared.Refusal.{Refusal}
+use Rattle.bit_reader.specs.declared.BitReader.{BitReader}
+use Rattle.bit_reader.specs.Gives.{parsed, cursor_of, Gives, value_read, held_as}
+use Rattle.bit_reader.proofs.Gives.{given, given_back, refuses, over}
 use Rattle.bit_reader.specs.Laws.{ue-small}
 use Rattle.partition.specs.Sizes.{sum, explicit_sizes, uniform_size, uniform_sizes, axis_sizes}
-use Rattle.syntax.specs.Element.{parsed}
-use Rattle.syntax.specs.Elements.{bits_parsed}
 use Rattle.tile_sizes.specs.Left.{axis-length, none-length}
 use Rattle.pps_fields.specs.declared.lists.AxisRead.{AxisRead}
-use Rattle.pps_fields.specs.FieldReads.{tested}
-use Rattle.pps_fields.specs.ListReads.{list_read, list-none, list-more, list-stops, one_left, Filling, Filled, fill_begins, fill_more, fill_stops, fill_ends, filled_numbers}
+use Rattle.pps_fields.specs.ListReads.{list_read, list-none, list-more, one_left, Filling, fill_begins, fill_more, fill_stops, fill_ends, filled_numbers}
 use Rattle.pps_fields.specs.Sizes.{size_read, sizes_read}
 
 -- what explicit sizes (minus 1) say of an axis of `total` CTBs, also where they pass it or a refusal cut them off
-unfoldable pub axis_of : List ℕ → ℕ → Cursor → AxisRead
-axis_of es total next =
+unfoldable pub axis_of : List ℕ → ℕ → AxisRead
+axis_of es total =
     record {
       count = length es;
       uniform = uniform_size es;
       sizes = length (axis_sizes es total);
       fits = leb (sum (explicit_sizes es)) total;
-      next = next;
     }
 
 -- how many there are, the last of them, and how many CTBs they take
@@ -37,8 +35,8 @@ pub record Counted (es : List ℕ) (count uniform taken : ℕ) : Type 0 where
   pub uniform_is : uniform_size es ≡ uniform
   pub taken_is : sum (explicit_sizes es) ≡ taken
 
-module _ (es : List ℕ) (count uniform taken total : ℕ) (next : Cursor) (k : Counted es count uniform taken) where
-  pub axis-over : total < taken → record { count = count; uniform = uniform; sizes = count; fits = false; next = next } ≡ axis_of es total next
+module _ (es : List ℕ) (count uniform taken total : ℕ) (k : Counted es count uniform taken) where
+  pub axis-over : total < taken → record { count = count; uniform = uniform; sizes = count; fits = false } ≡ axis_of es total
   unfolding axis_of
   axis-over h =
       let none : total - sum (explicit_sizes es) ≡ 0 = omega (arith, k.taken_is) in
@@ -46,7 +44,7 @@ module _ (es : List ℕ) (count uniform taken total : ℕ) (next : Cursor) (k : 
       rw (all, k.count_is, k.uniform_is, k.taken_is, lt-leb taken total h)
 
   pub axis-within : (remaining rest : ℕ) → taken ≤ total → remaining ≡ total - taken → rest ≡ length (uniform_sizes uniform remaining)
-      → record { count = count; uniform = uniform; sizes = count + rest; fits = true; next = next } ≡ axis_of es total next
+      → record { count = count; uniform = uniform; sizes = count + rest; fits = true } ≡ axis_of es total
   unfolding axis_of
   axis-within remaining rest h e f =
       let all : length (axis_sizes es total) ≡ count + rest = axis-length es total ∙ rw (k.count_is, k.uniform_is, k.taken_is, f, e) in
@@ -96,59 +94,55 @@ counting-ends : (whole : List ℕ) (i uniform taken : ℕ) → Counting whole []
 unfolding sum explicit_sizes uniform_after
 counting-ends whole i uniform taken k = record { count_is = omega (arith, k.counts); uniform_is = k.repeats; taken_is = omega (arith, k.takes) }
 
-module _ (bound n : ℕ) (s : List ℕ) (count from : ℕ) (c₀ : Cursor) (t₀ : List ℕ) where
+module _ (bound n count from : ℕ) (p₀ : BitReader) (t₀ : List ℕ) where
   -- where the loop stands: what is stored, and what is counted
-  pub record Pass (i : ℕ) (c : Cursor) (t : List ℕ) (uniform taken : ℕ) : Type 0 where
-    pub stored : Filling (size_read bound n) (λ v. v) s count from c₀ t₀ i c t
-    counting : Counting (list_read (size_read bound n) count s c₀).value (list_read (size_read bound n) (count - i) s c).value i uniform taken
+  pub record Pass (i : ℕ) (p : BitReader) (t : List ℕ) (uniform taken : ℕ) : Type 0 where
+    pub stored : Filling (size_read bound n) (λ v. v) count from p₀ t₀ i p t
+    counting : Counting (value_read (list_read (size_read bound n) count) p₀) (list_read (size_read bound n) (count - i) p₀.bytes.now (cursor_of p)).value i uniform taken
 
-  -- all that a call gives
-  abbrev Read : AxisRead → List ℕ → Type 0
-  Read r t = (r ≡ axis_of (sizes_read count bound n s c₀).value bound (sizes_read count bound n s c₀).next) × (t ≡ sets t₀ from (sizes_read count bound n s c₀).value)
-
-module _ {bound n : ℕ} {s : List ℕ} {count from : ℕ} {c₀ : Cursor} {t₀ : List ℕ} where
-  pub pass-begins : Pass bound n s count from c₀ t₀ 0 c₀ t₀ 1 0
+module _ {bound n count from : ℕ} {p₀ : BitReader} {t₀ : List ℕ} where
+  pub pass-begins : Pass bound n count from p₀ t₀ 0 p₀ t₀ 1 0
   pass-begins = record { stored = fill_begins; counting = rw (sub-zero count) (counting-begins _) }
 
-  module _ {i : ℕ} {c : Cursor} {t : List ℕ} {uniform taken : ℕ} (p : Pass bound n s count from c₀ t₀ i c t uniform taken) where
+  module _ {i : ℕ} {p : BitReader} {t : List ℕ} {uniform taken : ℕ} (k : Pass bound n count from p₀ t₀ i p t uniform taken) where
     pub pass-few : i ≤ taken
-    pass-few = p.counting.few
+    pass-few = k.counting.few
 
     pub pass-small : taken ≤ i * 4294967295
-    pass-small = p.counting.small
+    pass-small = k.counting.small
 
-    closed : {r : AxisRead} {d : Cursor} → list_read (size_read bound n) (count - i) s c ≡ parsed [] d → Filled (size_read bound n) (λ v. v) s count from c₀ t₀ i d t
-        → ((es : List ℕ) → Counted es i uniform taken → r ≡ axis_of es bound d) → Read bound n s count from c₀ t₀ r t
+    -- all is read
+    pub pass-ends : {r : AxisRead} → count ≤ i → ((es : List ℕ) → Counted es count uniform taken → r ≡ axis_of es bound)
+        → Gives (held_as (λ (es : List ℕ). axis_of es bound) (sizes_read count bound n)) p₀ p (Ok r) × (t ≡ sets t₀ from (value_read (sizes_read count bound n) p₀))
     unfolding sizes_read
-    closed {d = d} none f g =
-        let all = filled_numbers refl f in
-        let left : Counting (list_read (size_read bound n) count s c₀).value [] i uniform taken = rw none at p.counting in
-        (g _ (counting-ends _ i uniform taken left) ∙ ap (axis_of _ bound) all.0, all.1.1)
+    pass-ends h g =
+        let none : list_read (size_read bound n) (count - i) p₀.bytes.now (cursor_of p) ≡ parsed [] (cursor_of p) = rw (sub-eq-zero_of_le h) (list-none (size_read bound n) p₀.bytes.now (cursor_of p)) in
+        let all = filled_numbers refl (fill_ends k.stored h) in
+        let there : i ≡ count = omega (arith, k.stored.within) in
+        let left : Counting (value_read (list_read (size_read bound n) count) p₀) [] count uniform taken = rw (none, there) at k.counting in
+        (given k.stored.bytes (ap₂ parsed (g _ (counting-ends _ count uniform taken left)) all.0), all.1.1)
 
-    pub pass-ends : {r : AxisRead} → count ≤ i → ((es : List ℕ) → Counted es i uniform taken → r ≡ axis_of es bound c) → Read bound n s count from c₀ t₀ r t
-    pass-ends h g = closed (rw (sub-eq-zero_of_le h) (list-none (size_read bound n) s c)) (fill_ends p.stored h) g
+    -- a size was refused: what was read before it is stored
+    pub pass-stops : {q : BitReader} {e : Refusal} → i < count → Gives (size_read bound n) p q (Err e)
+        → Gives (held_as (λ (es : List ℕ). axis_of es bound) (sizes_read count bound n)) p₀ q (Err e) × (t ≡ sets t₀ from (value_read (sizes_read count bound n) p₀))
+    unfolding sizes_read
+    pass-stops h g =
+        let all = filled_numbers refl (fill_stops k.stored h g) in
+        (refuses (g.bytes ∙ k.stored.bytes) all.0, all.1.1)
 
-    module _ {v : BitsRead} (h : i < count) (e : v ≡ tested (λ x. ltb x bound) n (ue_read s c)) where
-      one : bits_parsed v ≡ size_read bound n s c
-      one = ap bits_parsed e
+    -- one more than a size fits 32 bits
+    pub size_small : {q : BitReader} {v : ℕ} → Gives (size_read bound n) p q (Ok v) → v < 4294967295
+    size_small g = omega (arith, g.value, ue-small p.bytes.now (cursor_of p))
 
-      pub pass-stops : {r : AxisRead} → (v.next.refused ≡ 0 → ⊥) → ((es : List ℕ) → Counted es i uniform taken → r ≡ axis_of es bound v.next)
-          → Read bound n s count from c₀ t₀ r t
-      pass-stops o g =
-          closed (rw (one_left count i h) (list-stops (size_read bound n) (count - (i + 1)) s c v.next v.value one o)) (fill_stops p.stored h one o) g
-
-      -- one more than a size fits 32 bits
-      pub size_small : v.value < 4294967295
-      unfolding tested
-      size_small = rw e (ue-small s c)
-
-      pub pass-more : {u : List ℕ} {w : ℕ} → v.next.refused ≡ 0 → u ≡ set t (from + i) v.value → w ≡ v.value + 1
-          → Pass bound n s count from c₀ t₀ (i + 1) v.next u (v.value + 1) (taken + w)
-      pass-more {w = w} o q f =
-          let rest = list_read (size_read bound n) (count - (i + 1)) s v.next in
-          let step : list_read (size_read bound n) (count - i) s c ≡ parsed (v.value ∷ rest.value) rest.next =
-          rw (one_left count i h) (list-more (size_read bound n) (count - (i + 1)) s c v.next v.value one o) in
-          record {
-            stored = fill_more p.stored h one o q;
-            counting = counting_more _ rest.value i uniform taken v.value w size_small f (rw step at p.counting);
-          }
+    pub pass-more : {q : BitReader} {v w : ℕ} {u : List ℕ} → i < count → Gives (size_read bound n) p q (Ok v) → u ≡ set t (from + i) v → w ≡ v + 1
+        → Pass bound n count from p₀ t₀ (i + 1) q u (v + 1) (taken + w)
+    pass-more {q} {v} {w} h g e f =
+        let s = p₀.bytes.now in
+        let rest = list_read (size_read bound n) (count - (i + 1)) s (cursor_of q) in
+        let one : parsed v (cursor_of q) ≡ size_read bound n s (cursor_of p) = given_back (over k.stored.bytes g) in
+        let step : list_read (size_read bound n) (count - i) s (cursor_of p) ≡ parsed (v ∷ rest.value) rest.next =
+        rw (one_left count i h) (list-more (size_read bound n) (count - (i + 1)) s (cursor_of p) (cursor_of q) v one refl) in
+        record {
+          stored = fill_more k.stored h g e;
+          counting = counting_more _ rest.value i uniform taken v w (size_small g) f (rw step at k.counting);
+        }

@@ -7,7 +7,6 @@ use Rattle.partition.specs.Sizes.{sum, explicit_sizes, uniform_size, tail_size, 
 use Rattle.syntax.specs.Element.{Parsed, parsed}
 use Rattle.pps_fields.specs.declared.lists.AxisRead.{AxisRead}
 use Rattle.pps_fields.specs.Axis.{axis_of}
-use Rattle.pps_fields.specs.FieldReads.{tested}
 use Rattle.pps_fields.specs.ListReads.{list_read}
 use Rattle.pps_fields.specs.Sizes.{sizes_read}
 
@@ -36,12 +35,12 @@ table =
     ∷ []
 
 all : map (λ (e : Example). sizes_read e.count e.bound 11 e.bytes (cursor_at 0)) table ≡ map (λ (e : Example). e.wanted) table
-unfolding table bit_at bits_at unless_refused onward stops zeros_at ue_after ue_within ue_read demanded tested list_read sizes_read
+unfolding table bit_at bits_at unless_refused onward stops zeros_at ue_after ue_within ue_read demanded list_read sizes_read
 all = refl
 
 -- ---- an axis
 abbrev axis : ℕ → ℕ → ℕ → Bool → AxisRead
-axis count uniform sizes fits = record { count = count; uniform = uniform; sizes = sizes; fits = fits; next = cursor_at 0 }
+axis count uniform sizes fits = record { count = count; uniform = uniform; sizes = sizes; fits = fits }
 
 record AxisExample : Type 0 where
   minus1 : List ℕ
@@ -61,6 +60,6 @@ axes =
     ∷ of [] 4 (axis 0 1 4 true)
     ∷ []
 
-all-axes : map (λ (e : AxisExample). axis_of e.minus1 e.total (cursor_at 0)) axes ≡ map (λ (e : AxisExample). e.wanted) axes
+all-axes : map (λ (e : AxisExample). axis_of e.minus1 e.total) axes ≡ map (λ (e : AxisExample). e.wanted) axes
 unfolding axes axis_of sum explicit_sizes uniform_size tail_size uniform_sizes axis_sizes
 all-axes = refl

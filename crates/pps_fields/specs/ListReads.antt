@@ -1,12 +1,18 @@
 -- Values read one behind the other into a lent table, up to a count or a refusal.
-use Rattle.std.specs.Prelude.{ℕ, zero, suc, ◌+◌, ◌-◌, ◌≤◌, ◌<◌, ◌≡◌, List, [], ◌∷◌, map, Bool, true, false, cond, eqb, length, set}
+use Rattle.std.specs.Prelude.{ℕ, zero, suc, ◌+◌, ◌-◌, ◌≤◌, ◌<◌, ◌≡◌, List, [], ◌∷◌, map, Bool, true, false, cond, eqb, length, set, Ok, Err}
 use Rattle.std.proofs.Math.Path.{refl}
 use Rattle.std.proofs.Common.{sym, ap, ap₂, ◌∙◌, map-id, add-zero, zero-add, sub-eq-zero_of_le, add-one, arith, length-set}
 use Rattle.std.proofs.Math.Nat.{sub-zero}
 use Rattle.std.proofs.lemmas.List.Edits.{sets}
 use borrow.Author.Tests.{eq-eqb, ne_eqb}
 use Rattle.bit_reader.specs.declared.Cursor.{Cursor}
-use Rattle.syntax.specs.Element.{Parsed, parsed, Element}
+use Rattle.refusal.specs.declared.Refusal.{Refusal}
+use Rattle.refusal.specs.Numbers.{number}
+use Rattle.bit_reader.specs.declared.BitReader.{BitReader}
+use Rattle.bit_reader.specs.Reading.{refusal}
+use Rattle.bit_reader.specs.Gives.{Parsed, parsed, cursor_of, Gives, value_read}
+use Rattle.bit_reader.proofs.Gives.{given, given_back, refused_back, not-0, over}
+use Rattle.syntax.specs.Element.{Element}
 use Rattle.syntax.specs.Elements.{or_else}
 use Rattle.syntax.specs.Lists.{many, none, cons_more}
 
@@ -53,17 +59,18 @@ many-counted true n count e k j s c h = rw (h, add-one n)
 many-counted false n count e k j s c h = rw h
 
 -- ---- a loop that reads into a table
-module _ {A B : Type 0} (read : List ℕ → Cursor → Parsed A) (put : A → B) (s : List ℕ) (count from : ℕ) (c₀ : Cursor) (t₀ : List B) where
+module _ {A B : Type 0} (read : List ℕ → Cursor → Parsed A) (put : A → B) (count from : ℕ) (p₀ : BitReader) (t₀ : List B) where
   abbrev whole : Parsed (List A)
-  whole = list_read read count s c₀
+  whole = list_read read count p₀.bytes.now (cursor_of p₀)
 
   -- i values are in their places; what is left to be read and stored makes the whole
-  pub record Filling (i : ℕ) (c : Cursor) (t : List B) : Type 0 where
+  pub record Filling (i : ℕ) (p : BitReader) (t : List B) : Type 0 where
+    pub bytes : p.bytes ≡ p₀.bytes
     pub within : i ≤ count
     pub long : length t ≡ length t₀
-    pub next : whole.next ≡ (list_read read (count - i) s c).next
-    pub stored : length whole.value ≡ i + length (list_read read (count - i) s c).value
-    pub table : sets t₀ from (map put whole.value) ≡ sets t (from + i) (map put (list_read read (count - i) s c).value)
+    pub next : whole.next ≡ (list_read read (count - i) p₀.bytes.now (cursor_of p)).next
+    pub stored : length whole.value ≡ i + length (list_read read (count - i) p₀.bytes.now (cursor_of p)).value
+    pub table : sets t₀ from (map put whole.value) ≡ sets t (from + i) (map put (list_read read (count - i) p₀.bytes.now (cursor_of p)).value)
 
   -- all that is read is in its place
   pub record Filled (n : ℕ) (c : Cursor) (t : List B) : Type 0 where
@@ -75,23 +82,29 @@ module _ {A B : Type 0} (read : List ℕ → Cursor → Parsed A) (put : A → B
 pub one_left : (count i : ℕ) → i < count → count - i ≡ suc (count - (i + 1))
 one_left count i h = omega arith
 
-module _ {A B : Type 0} {read : List ℕ → Cursor → Parsed A} {put : A → B} {s : List ℕ} {count from : ℕ} {c₀ : Cursor} {t₀ : List B} where
-  pub fill_begins : Filling read put s count from c₀ t₀ 0 c₀ t₀
+module _ {A B : Type 0} {read : List ℕ → Cursor → Parsed A} {put : A → B} {count from : ℕ} {p₀ : BitReader} {t₀ : List B} where
+  pub fill_begins : Filling read put count from p₀ t₀ 0 p₀ t₀
   fill_begins =
       record {
+        bytes = refl;
         within = omega arith;
         long = refl;
         next = rw (sub-zero count);
-        stored = rw (sub-zero count, zero-add (length (list_read read count s c₀).value));
+        stored = rw (sub-zero count, zero-add (length (list_read read count p₀.bytes.now (cursor_of p₀)).value));
         table = rw (sub-zero count, add-zero from);
       }
 
-  pub fill_more : {i : ℕ} {c d : Cursor} {t u : List B} {v : A} → Filling read put s count from c₀ t₀ i c t → i < count → parsed v d ≡ read s c → d.refused ≡ 0
-      → u ≡ set t (from + i) (put v) → Filling read put s count from c₀ t₀ (i + 1) d u
-  fill_more {i} {c} {d} {t} {u} {v} f h e o w =
+  pub fill_more : {i : ℕ} {p q : BitReader} {t u : List B} {v : A} → Filling read put count from p₀ t₀ i p t → i < count → Gives read p q (Ok v) → u ≡ set t (from + i) (put v)
+      → Filling read put count from p₀ t₀ (i + 1) q u
+  fill_more {i} {p} {q} {t} {u} {v} f h g w =
+      let s = p₀.bytes.now in
+      let c = cursor_of p in
+      let d = cursor_of q in
       let k = count - (i + 1) in
-      let step : list_read read (count - i) s c ≡ parsed (v ∷ (list_read read k s d).value) (list_read read k s d).next = rw (one_left count i h) (list-more read k s c d v e o) in
+      let e : parsed v d ≡ read s c = given_back (over f.bytes g) in
+      let step : list_read read (count - i) s c ≡ parsed (v ∷ (list_read read k s d).value) (list_read read k s d).next = rw (one_left count i h) (list-more read k s c d v e refl) in
       record {
+        bytes = g.bytes ∙ f.bytes;
         within = omega arith;
         long = rw w (length-set t (from + i) (put v) ∙ f.long);
         next = f.next ∙ rw step;
@@ -105,23 +118,36 @@ module _ {A B : Type 0} {read : List ℕ → Cursor → Parsed A} {put : A → B
       one_on i n = omega arith
 
   -- nothing is left
-  closed : (i : ℕ) (c d : Cursor) (t : List B) → Filling read put s count from c₀ t₀ i c t → list_read read (count - i) s c ≡ parsed [] d → Filled read put s count from c₀ t₀ i d t
-  closed i c d t f none =
+  closed : (i : ℕ) (p : BitReader) (d : Cursor) (t : List B) → Filling read put count from p₀ t₀ i p t → list_read read (count - i) p₀.bytes.now (cursor_of p) ≡ parsed [] d → Filled read put count from p₀ t₀ i d t
+  closed i p d t f none =
       record { next = sym (f.next ∙ rw none); stored = sym (f.stored ∙ rw (none, add-zero i)); table = sym (f.table ∙ rw none) }
 
-  pub fill_ends : {i : ℕ} {c : Cursor} {t : List B} → Filling read put s count from c₀ t₀ i c t → count ≤ i → Filled read put s count from c₀ t₀ i c t
-  fill_ends {i} {c} {t} f h = closed i c c t f (rw (sub-eq-zero_of_le h) (list-none read s c))
+  pub fill_ends : {i : ℕ} {p : BitReader} {t : List B} → Filling read put count from p₀ t₀ i p t → count ≤ i → Filled read put count from p₀ t₀ i (cursor_of p) t
+  fill_ends {i} {p} {t} f h = closed i p (cursor_of p) t f (rw (sub-eq-zero_of_le h) (list-none read p₀.bytes.now (cursor_of p)))
 
-  pub fill_stops : {i : ℕ} {c d : Cursor} {t : List B} {v : A} → Filling read put s count from c₀ t₀ i c t → i < count → parsed v d ≡ read s c → (d.refused ≡ 0 → ⊥)
-      → Filled read put s count from c₀ t₀ i d t
-  fill_stops {i} {c} {d} {t} {v} f h e o = closed i c d t f (rw (one_left count i h) (list-stops read (count - (i + 1)) s c d v e o))
+  pub fill_stops : {i : ℕ} {p q : BitReader} {t : List B} {e : Refusal} → Filling read put count from p₀ t₀ i p t → i < count → Gives read p q (Err e)
+      → Filled read put count from p₀ t₀ i (refusal (cursor_of q) (number e)) t
+  fill_stops {i} {p} {q} {t} {e} f h g =
+      let s = p₀.bytes.now in
+      let c = cursor_of p in
+      let is : refusal (cursor_of q) (number e) ≡ (read s c).next = refused_back (over f.bytes g) in
+      closed i p (refusal (cursor_of q) (number e)) t f
+      (rw (one_left count i h) (list-stops read (count - (i + 1)) s c (read s c).next (read s c).value refl (not-0 e q.bit_pos is) ∙ ap (parsed []) (sym is)))
 
   -- x is what a contract calls the whole
-  pub filled_as : {n : ℕ} {c : Cursor} {t : List B} {x : Parsed (List A)} → list_read read count s c₀ ≡ x → Filled read put s count from c₀ t₀ n c t
+  pub filled_as : {n : ℕ} {c : Cursor} {t : List B} {x : Parsed (List A)} → list_read read count p₀.bytes.now (cursor_of p₀) ≡ x → Filled read put count from p₀ t₀ n c t
       → (c ≡ x.next) × ((n ≡ length x.value) × (t ≡ sets t₀ from (map put x.value)))
   filled_as e f = rw (← e) (f.next, (f.stored, f.table))
 
 -- numbers, stored as they are
-pub filled_numbers : {read : List ℕ → Cursor → Parsed ℕ} {s : List ℕ} {count from : ℕ} {c₀ : Cursor} {t₀ : List ℕ} {n : ℕ} {c : Cursor} {t : List ℕ} {x : Parsed (List ℕ)}
-    → list_read read count s c₀ ≡ x → Filled read (λ v. v) s count from c₀ t₀ n c t → (c ≡ x.next) × ((n ≡ length x.value) × (t ≡ sets t₀ from x.value))
+pub filled_numbers : {read : List ℕ → Cursor → Parsed ℕ} {count from : ℕ} {p₀ : BitReader} {t₀ : List ℕ} {n : ℕ} {c : Cursor} {t : List ℕ} {x : Parsed (List ℕ)}
+    → list_read read count p₀.bytes.now (cursor_of p₀) ≡ x → Filled read (λ v. v) count from p₀ t₀ n c t → (c ≡ x.next) × ((n ≡ length x.value) × (t ≡ sets t₀ from x.value))
 filled_numbers e f = let g = filled_as e f in (g.0, (g.1.0, g.1.1 ∙ rw map-id))
+
+-- the whole list, where no value was refused
+pub filled-list : {read : List ℕ → Cursor → Parsed ℕ} {count from : ℕ} {p₀ p : BitReader} {t₀ t : List ℕ} {i : ℕ} (x : List ℕ → Cursor → Parsed (List ℕ))
+    → list_read read count p₀.bytes.now (cursor_of p₀) ≡ x p₀.bytes.now (cursor_of p₀) → Filling read (λ v. v) count from p₀ t₀ i p t → count ≤ i
+    → Gives x p₀ p (Ok (value_read x p₀)) × (length (value_read x p₀) ≡ count) × (t ≡ sets t₀ from (value_read x p₀))
+filled-list {count = count} {p₀ = p₀} {i = i} x e f h =
+    let all = filled_numbers e (fill_ends f h) in
+    (given f.bytes (ap (parsed (value_read x p₀)) all.0), omega (arith, all.1.0, f.within), all.1.1)

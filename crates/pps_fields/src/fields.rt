@@ -1,38 +1,73 @@
-// Fields whose values have limits (H.266 7.4.3.5).
-ghost use Rattle.std.specs.Prelude.{◌≡◌, leb, ltb};
-ghost use Rattle.bit_reader.specs.Reading.{ue_read, bits_or};
-ghost use Rattle.syntax.specs.Element.{parsed};
-ghost use Rattle.pps_syntax.specs.Offsets.{in_range, offset_or};
-ghost use Rattle.pps_fields.specs.FieldReads.{tested};
+// Single fields: with a limit (H.266 7.4.3.5), or coded under a condition alone and else inferred.
+ghost use Rattle.std.specs.Prelude.{◌≡◌, ◌≤◌, ◌<◌, Ok, IfOk, ℕ, leb, ltb};
+ghost use Rattle.refusal.specs.Numbers.{number};
+ghost use Rattle.bit_reader.specs.Gives.{Gives, tested, ue_parsed};
+ghost use Rattle.syntax.specs.Elements.{flag, ue, se, limited, sameℕ, sameℤ, or_else};
+ghost use Rattle.syntax.proofs.Elements.{absent};
+ghost use Rattle.pps_syntax.specs.Offsets.{in_range, offset, offset_or};
 
-use bit_reader::guarded::demand;
-use bit_reader::{BitsRead, Cursor, SignedRead};
+use bit_reader::BitReader;
+use refusal::Refusal;
 
-// ue(v) of at most `limit`, else refused with `number`; 0 where it isn't coded.
-pub fn ue_at_most(s: &[u8], on: bool, limit: u32, number: u8, c: Cursor) -> BitsRead
-    ensures { result ≡ bits_or on (tested (λ v. leb v limit) number (ue_read s.now c)) 0 c }
+pub fn flag_or(r: &mut BitReader<'_>, on: bool, inferred: u8) -> u8
+    ensures { (n : ℕ) → Gives (or_else on flag (absent sameℕ inferred n)).read r.old r.new (Ok result) }
 {
-    if on {
-        let v = bit_reader::ue(s, c);
-        let next = demand(v.value <= limit, number, v.next);
-        return BitsRead {
-            value: v.value,
-            next,
-        };
-    }
-    BitsRead { value: 0, next: c }
+    if on { r.flag() } else { inferred }
 }
 
-// ue(v) below `bound`, else refused with `number`.
-pub fn ue_below(s: &[u8], bound: u32, number: u8, c: Cursor) -> BitsRead
-    ensures { result ≡ tested (λ v. ltb v bound) number (ue_read s.now c) }
+pub fn ue_or(r: &mut BitReader<'_>, on: bool, inferred: u32) -> Result<u32, Refusal>
+    ensures { (n : ℕ) → Gives (or_else on ue (absent sameℕ inferred n)).read r.old r.new result }
 {
-    let v = bit_reader::ue(s, c);
-    let next = demand(v.value < bound, number, v.next);
-    BitsRead {
-        value: v.value,
-        next,
+    if on { r.ue() } else { Ok(inferred) }
+}
+
+pub fn se_or(r: &mut BitReader<'_>, on: bool, inferred: i32) -> Result<i32, Refusal>
+    ensures { (n : ℕ) → Gives (or_else on se (absent sameℤ inferred n)).read r.old r.new result }
+{
+    if on { r.se() } else { Ok(inferred) }
+}
+
+// ue(v) of at most `limit`.
+pub fn ue_at_most(r: &mut BitReader<'_>, limit: u32, refusal: Refusal) -> Result<u32, Refusal>
+    ensures value { Gives (tested (λ v. leb v limit) (number refusal) ue_parsed) r.old r.new result }
+    ensures limit { IfOk result (λ v. v ≤ limit) }
+{
+    let v = r.ue()?;
+    if v > limit {
+        return Err(refusal);
     }
+    Ok(v)
+}
+
+// The same, 0 where it isn't coded.
+pub fn ue_at_most_or(
+    r: &mut BitReader<'_>,
+    on: bool,
+    limit: u32,
+    refusal: Refusal,
+) -> Result<u32, Refusal>
+    ensures value { (n : ℕ) (l : 0 < number refusal)
+        → Gives (or_else on (limited ue (λ v. leb v limit) (number refusal) l) (absent sameℕ 0 n)).read
+        r.old r.new result }
+    ensures limit { IfOk result (λ v. v ≤ limit) }
+{
+    if on {
+        ue_at_most(r, limit, refusal)
+    } else {
+        Ok(0)
+    }
+}
+
+// ue(v) below `bound`.
+pub fn ue_below(r: &mut BitReader<'_>, bound: u32, refusal: Refusal) -> Result<u32, Refusal>
+    ensures value { Gives (tested (λ v. ltb v bound) (number refusal) ue_parsed) r.old r.new result }
+    ensures bound { IfOk result (λ v. v < bound) }
+{
+    let v = r.ue()?;
+    if v >= bound {
+        return Err(refusal);
+    }
+    Ok(v)
 }
 
 fn in_range(v: i32) -> bool
@@ -41,20 +76,20 @@ fn in_range(v: i32) -> bool
     (-12 <= v) & (v <= 12)
 }
 
-// An offset of −12 to 12, else refused with 21; the inferred value where it isn't coded.
-pub fn offset_or(s: &[u8], on: bool, inferred: i32, c: Cursor) -> SignedRead
-    ensures { parsed result.value result.next ≡ (offset_or on inferred).read s.now c }
+// An offset of −12 to 12.
+pub fn read_offset(r: &mut BitReader<'_>) -> Result<i32, Refusal>
+    ensures { Gives offset.read r.old r.new result }
 {
-    if on {
-        let v = bit_reader::se(s, c);
-        let next = demand(in_range(v.value), 21, v.next);
-        return SignedRead {
-            value: v.value,
-            next,
-        };
+    let v = r.se()?;
+    if !in_range(v) {
+        return Err(Refusal::QpOffset);
     }
-    SignedRead {
-        value: inferred,
-        next: c,
-    }
+    Ok(v)
+}
+
+// The same, the inferred value where it isn't coded.
+pub fn offset_or(r: &mut BitReader<'_>, on: bool, inferred: i32) -> Result<i32, Refusal>
+    ensures { Gives (offset_or on inferred).read r.old r.new result }
+{
+    if on { read_offset(r) } else { Ok(inferred) }
 }

@@ -4,3 +4,4 @@ pub mod Once
 pub mod ReadSteps
 pub mod Round
 pub mod WriteSteps
+pub mod Steps

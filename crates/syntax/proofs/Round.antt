@@ -9,7 +9,7 @@ use Rattle.codes.specs.Holds.{Holds, holds-left, holds-right}
 use Rattle.codes.specs.Symbols.{bits_in, bits_in_append, check, bits_in_check, refusal-putting, bits_in_putting}
 use Rattle.bit_reader.specs.declared.Cursor.{Cursor}
 use Rattle.bit_reader.specs.Reading.{cursor_at, demanded}
-use Rattle.bit_reader.specs.Laws.{demanded-true}
+use Rattle.bit_reader.specs.Laws.{demanded-true, demanded-refused}
 use Rattle.bit_reader.specs.Took.{Going}
 use Rattle.syntax.specs.Element.{parsed, Consumed, Element}
 use Rattle.syntax.specs.Syntax.{Syntax, done, element, on_writing, on_reading, parse, symbols_for, bits_for, refusal_for, canonical_for, rebuilt, Faithful, Whole}
@@ -88,6 +88,19 @@ module _ {R : Type 0} where
   binary_for (on_writing test n k) r = rw (bits_in_append (check (test r) n) (symbols_for k r), bits_in_check (test r) n) (binary_for k r)
   binary_for (on_reading ok n l k) r = binary_for k r
 
+  -- behind a refusal nothing is read
+  pub parse-stuck : (d : Syntax R) (s : List ℕ) (c : Cursor) → (c.refused ≡ 0 → ⊥) → (parse d s c).next ≡ c
+  unfolding parse
+  parse-stuck (done r) s c h = refl
+  parse-stuck (element e place k) s c h =
+      let d = (e.read s c).next in
+      let here : d ≡ c = e.stuck s c h in
+      parse-stuck (k (e.read s c).value) s d (λ o. h (sym (ap (λ (x : Cursor). x.refused) here) ∙ o)) ∙ here
+  parse-stuck (on_writing test n k) s c h = parse-stuck k s c h
+  parse-stuck (on_reading ok n l k) s c h =
+      let same : demanded ok n c ≡ c = demanded-refused ok n c h in
+      ap (λ (d : Cursor). (parse k s d).next) same ∙ parse-stuck k s c h
+
   -- a syntax structure is an element of a larger one
   abbrev pub structure : (d : Syntax R) → Faithful d (λ _. Unit {0}) → Whole d → Element R
   structure d f w =
@@ -98,4 +111,5 @@ module _ {R : Type 0} where
         binary = binary_for d;
         taken = read_then_written d f;
         back = written_then_read d w;
+        stuck = parse-stuck d;
       }

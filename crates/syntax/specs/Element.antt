@@ -5,16 +5,9 @@ use Rattle.codes.specs.Bits.{Binary}
 use Rattle.codes.specs.Holds.{Holds}
 use Rattle.codes.specs.Symbols.{Symbol, refusal_in, bits_in}
 use Rattle.bit_reader.specs.declared.Cursor.{Cursor}
+pub use Rattle.bit_reader.specs.Gives.{Parsed, parsed}
 use Rattle.bit_reader.specs.Reading.{cursor_at}
 use Rattle.bit_reader.specs.Took.{Going, Took}
-
--- what reading gives: a value, and the cursor behind it
-pub record Parsed (A : Type 0) : Type 0 where
-  pub value : A
-  pub next : Cursor
-
-abbrev pub parsed : {A : Type 0} → A → Cursor → Parsed A
-parsed v c = record { value = v; next = c }
 
 -- reading from c to d took exactly the bits of these symbols, which refuse nothing, and its value passes as one that reading gives
 pub record Consumed (s : List ℕ) (c d : Cursor) (symbols : List Symbol) (canonical : Bool) : Type 0 where
@@ -36,3 +29,5 @@ pub record Element (A : Type 0) : Type 0 where
   -- what writing puts for a value that reading could have given is read as that value
   pub back : (s : List ℕ) (at to : ℕ) (v : A) → refusal_in (symbols v) ≡ 0 → canonical v ≡ true → Holds s at (bits_in (symbols v)) to
       → read s (cursor_at at) ≡ parsed v (cursor_at to)
+  -- behind a refusal nothing is read
+  pub stuck : (s : List ℕ) (c : Cursor) → (c.refused ≡ 0 → ⊥) → (read s c).next ≡ c

@@ -8,20 +8,14 @@ use Rattle.codes.specs.ExpGolomb.{ue_code, ue-binary, signed_of, code_num, signe
 use Rattle.codes.specs.Holds.{Holds}
 use Rattle.codes.specs.Symbols.{refusal_in, bits_in, putting, check, checked, refusal-append, bits_in_append, refusal-putting, bits_in_putting, refusal-check, bits_in_check, first, first-right}
 use Rattle.bit_reader.specs.declared.Cursor.{Cursor}
-use Rattle.bit_reader.specs.declared.BitsRead.{BitsRead}
-use Rattle.bit_reader.specs.declared.SignedRead.{SignedRead}
+pub use Rattle.bit_reader.specs.Gives.{bits_parsed, signed_parsed}
 use Rattle.bit_reader.specs.Reading.{cursor_at, demanded, u_read, ue_read, se_read}
-use Rattle.bit_reader.specs.Laws.{demanded-true, ue-small}
+use Rattle.bit_reader.specs.Laws.{demanded-true, demanded-refused, ue-small}
 use Rattle.bit_reader.specs.ReadBack.{u-reads-back, ue-reads-back, se-reads-back}
+use Rattle.bit_reader.proofs.Stuck.{u_stuck, ue_stuck, se_stuck}
 use Rattle.bit_reader.specs.Took.{Going, Took, u-took, ue-took, se-took, se-small}
-use Rattle.syntax.specs.Element.{Parsed, parsed, Consumed, Element}
+use Rattle.syntax.specs.Element.{parsed, Consumed, Element}
 use Rattle.syntax.specs.Round.{took-none, consumed-check, refusal_parts, demanded-going}
-
-abbrev pub bits_parsed : BitsRead → Parsed ℕ
-bits_parsed r = parsed r.value r.next
-
-abbrev pub signed_parsed : SignedRead → Parsed ℤ
-signed_parsed r = parsed r.value r.next
 
 -- ---- bits behind a test of writing
 pub checked-bits : (ok : Bool) (n : ℕ) (bs : List ℕ) → bits_in (checked ok n bs) ≡ bs
@@ -58,6 +52,7 @@ u n e =
       binary = λ v. rw (checked-bits (ltb v (2 ^ n)) e (to_bits n v)) (binary-to_bits n v);
       taken = λ s c g. let t = u-took s c n g in coded s c _ _ e _ _ t.0 (lt-ltb _ _ t.1) (lt-ltb _ _ t.1);
       back = λ s at to v r c h. ap bits_parsed (u-reads-back s at to n v (ltb-true _ _ c) (held (ltb v (2 ^ n)) e (to_bits n v) h));
+      stuck = λ s c h. u_stuck s c n h;
     }
 
 -- ---- a flag, u(1). Writing takes every number but 0 for 1
@@ -89,6 +84,7 @@ flag =
       back = λ s at to v r c h.
           let l = ltb-true _ _ c in
           ap bits_parsed (u-reads-back s at to 1 v l (subst (λ (l : List ℕ). Holds s at l to) (bits_in_putting (flag_bit v ∷ []) ∙ sym (flag-bits v l)) h));
+      stuck = λ s c h. u_stuck s c 1 h;
     }
 
 -- ---- ue(v) and se(v). Writing refuses what has no code of 32 bits with 25
@@ -111,6 +107,7 @@ ue =
       binary = λ v. rw (checked-bits (ltb v 4294967295) 25 (ue_code v)) (ue-binary v);
       taken = λ s c g. coded s c _ _ 25 _ _ (ue-took s c g) (lt-ltb _ _ (ue-small s c)) refl;
       back = λ s at to v r c h. ap bits_parsed (ue-reads-back s at to v (ue_canon v r) (held (ltb v 4294967295) 25 (ue_code v) h));
+      stuck = ue_stuck;
     }
 
 abbrev pub se : Element ℤ
@@ -122,6 +119,7 @@ se =
       binary = λ v. rw (checked-bits (ltb (code_num v) 4294967295) 25 (se_code v)) (se-binary v);
       taken = λ s c g. coded s c _ _ 25 _ _ (se-took s c g) (lt-ltb _ _ (se-small s c)) refl;
       back = λ s at to v r c h. ap signed_parsed (se-reads-back s at to v (se_canon v r) (held (ltb (code_num v) 4294967295) 25 (se_code v) h));
+      stuck = se_stuck;
     }
 
 -- ---- an element whose value must pass a test: in reading behind it, in writing before it
@@ -147,6 +145,7 @@ limited {A} e ok n l =
           let bits : bits_in (check (ok v) n ++ e.symbols v) ≡ bits_in (e.symbols v) = bits_in_append (check (ok v) n) (e.symbols v) ∙ ap (λ (x : List ℕ). x ++ bits_in (e.symbols v)) (bits_in_check (ok v) n) in
           let b = e.back s at to v a.1 c (subst (λ (x : List ℕ). Holds s at x to) bits h) in
           rw (b, demanded-true (ok v) n (cursor_at to) (check-held (ok v) n l a.0));
+      stuck = λ s c h. ap (demanded (ok (e.read s c).value) n) (e.stuck s c h) ∙ demanded-refused (ok (e.read s c).value) n c h;
     }
 
 -- ---- an element with no bits
@@ -179,6 +178,7 @@ inferred {A} same value ok fit n =
       back = λ s at to v r c h.
           let none : Holds s at [] to = subst (λ (l : List ℕ). Holds s at l to) (bits_in_check (ok v) n) h in
           ap₂ (λ (x : A) (y : ℕ). parsed x (cursor_at y)) (sym (same.is v value c)) (sym (add-zero at) ∙ none.reaches);
+      stuck = λ s c h. refl;
     }
 
 -- a flag that is set

@@ -5,6 +5,7 @@ use Rattle.std.proofs.Math.Path.{refl, ap}
 use Rattle.std.proofs.Common.{sym, subst, ◌∙◌, add-zero, arith}
 use mathlib.Core.List.{List, [], ◌∷◌, ◌++◌}
 use Rattle.std.proofs.lemmas.Bool.{eqb-false}
+use borrow.Author.Tests.{eqb-true}
 use Rattle.codes.specs.Bits.{Binary}
 use Rattle.codes.specs.Holds.{Holds, holds-left, holds-right}
 use Rattle.codes.specs.Symbols.{Symbol, refusal_in, bits_in, check, bits_in_append, bits_in_check, bits_in_putting, refusal-putting}
@@ -45,6 +46,7 @@ module _ {A : Type 0} where
         binary = λ l. rw (none-bits n l) tt;
         taken = λ s c g. record { took = rw (bits_in_putting []) (took-none s c g); accepted = refusal-putting []; given = refl };
         back = λ s at to l r c h. none-back s at to l c (subst (λ (x : List ℕ). Holds s at x to) (none-bits n l) h);
+        stuck = λ s c h. refl;
       }
 
   -- ---- one, and more that may depend on it. Reading stops at a refusal; writing a list that is too short is refused with n
@@ -94,8 +96,15 @@ module _ {A : Type 0} where
         let q = (rest x).back s m to xs a.1 b.1 (holds-right bs cs t) in
         rw (p, q)
 
+    pub cons-stuck : (s : List ℕ) (c : Cursor) → (c.refused ≡ 0 → ⊥) → (cons_read s c).next ≡ c
+    cons-stuck s c h = more (eqb (e.read s c).next.refused 0) refl
+      where
+        more : (t : Bool) → eqb (e.read s c).next.refused 0 ≡ t → (cons_more t (e.read s c).value s (e.read s c).next).next ≡ c
+        more true q = absurd (h (sym (ap (λ (d : Cursor). d.refused) (e.stuck s c h)) ∙ eqb-true _ _ q))
+        more false q = e.stuck s c h
+
     abbrev pub cons : Element (List A)
-    cons = record { read = cons_read; symbols = cons_symbols; canonical = cons_canonical; binary = cons-binary; taken = cons-taken; back = cons-back }
+    cons = record { read = cons_read; symbols = cons_symbols; canonical = cons_canonical; binary = cons-binary; taken = cons-taken; back = cons-back; stuck = cons-stuck }
 
   -- ---- a list of the given length; writing another length is refused with n
   unfoldable pub many : ℕ → Element A → ℕ → Element (List A)

@@ -1,12 +1,9 @@
--- One step of the description for each call, the last call first.
-use mathlib.Core.Path.{◌∙◌}
-use Rattle.syntax.specs.ReadSteps.{reads-done, reads}
+-- One step of the description for each call.
 use Rattle.pps_syntax.specs.Head.{kind}
-use Rattle.pps_fields.specs.FieldReads.{byte-field}
+use Rattle.syntax.specs.Syntax.{◌>>=◌}
+use Rattle.syntax.proofs.Steps.{follows, ◌⟫◌, end}
 use Rattle.pps_fields.proofs.read_kind.Goals as goal
 
 pub returns : goal.returns
-unfolding kind
-returns c = reads-done _ _ _
-    ∙ reads _ _ _ _ (byte-field _ _ 1 c.flag-unpartitioned.ensures)
-    ∙ reads _ _ _ _ (byte-field _ _ 1 c.flag-output.ensures)
+unfolding kind ◌>>=◌
+returns c = follows kind (c.flag-output.ensures ⟫ c.flag-unpartitioned.ensures ⟫ end)

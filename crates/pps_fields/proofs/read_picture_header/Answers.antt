@@ -1,18 +1,9 @@
--- One step of the description for each call, the last call first.
-use mathlib.Core.Path.{◌∙◌}
-use Rattle.syntax.specs.ReadSteps.{reads-done, reads}
+-- One step of the description for each call.
 use Rattle.pps_syntax.specs.PictureHeader.{picture_header}
-use Rattle.pps_fields.specs.FieldReads.{byte-field, flag-field}
+use Rattle.syntax.specs.Syntax.{◌>>=◌}
+use Rattle.syntax.proofs.Steps.{follows, ◌⟫◌, end}
 use Rattle.pps_fields.proofs.read_picture_header.Goals as goal
 
 pub returns : goal.returns
-unfolding picture_header
-returns c = reads-done _ _ _
-    ∙ reads _ _ _ _ (byte-field _ _ 1 c.flag-extension.ensures)
-    ∙ reads _ _ _ _ (byte-field _ _ 1 c.flag-slice.ensures)
-    ∙ reads _ _ _ _ (byte-field _ _ 1 c.flag-picture.ensures)
-    ∙ reads _ _ _ _ (flag-field _ _ _ 0 0 c.flag_or-qp.ensures)
-    ∙ reads _ _ _ _ (flag-field _ _ _ 0 0 c.flag_or-wp.ensures)
-    ∙ reads _ _ _ _ (flag-field _ _ _ 0 0 c.flag_or-alf.ensures)
-    ∙ reads _ _ _ _ (flag-field _ _ _ 0 0 c.flag_or-sao.ensures)
-    ∙ reads _ _ _ _ (flag-field _ _ _ 0 0 c.flag_or-rpl.ensures)
+unfolding picture_header ◌>>=◌
+returns c = follows (picture_header _ _) ((c.flag_or-rpl.ensures _) ⟫ (c.flag_or-sao.ensures _) ⟫ (c.flag_or-alf.ensures _) ⟫ (c.flag_or-wp.ensures _) ⟫ (c.flag_or-qp.ensures _) ⟫ c.flag-picture.ensures ⟫ c.flag-slice.ensures ⟫ c.flag-extension.ensures ⟫ end)

@@ -1,28 +1,29 @@
--- One step of the description for each call, the last call first. A signed value is unchanged by the 32 bits of its field.
-use mathlib.Core.Path.{ap, ◌∙◌}
-use lib.Dec.{leb, lit<}
-use mir.Facts.{to_z-of_z}
-use mir.Syntax.{w32}
-use mir.Val.{SFits}
-use Rattle.syntax.specs.Elements.{signed_parsed}
-use Rattle.syntax.specs.ReadSteps.{reads-done, reads}
+-- One step of the description for each call.
 use Rattle.pps_syntax.specs.References.{references}
-use Rattle.pps_fields.specs.FieldReads.{byte-field, ue-field, tested_always}
-use borrow.Author.Rules.{rules}
+use Rattle.refusal.specs.Numbers.{number}
+use Rattle.std.proofs.Common.{SFits, to_z-of_z, rules}
+use Rattle.std.specs.Int.{w32}
+use Rattle.syntax.specs.Syntax.{◌>>=◌}
+use Rattle.syntax.proofs.Steps.{follows, exit, ◌⟫◌, stop, end}
 use Rattle.pps_fields.proofs.read_references.Goals as goal
 
+pub returns-in_err-l0 : goal.returns-in_err-l0
+unfolding references ◌>>=◌ number
+returns-in_err-l0 c = exit references c.from_residual.ensures (c.flag-cabac.ensures ⟫ stop c.in_err-l0.ensures.value)
+
+pub returns-in_err-l1 : goal.returns-in_err-l1
+unfolding references ◌>>=◌ number
+returns-in_err-l1 c = exit references c.from_residual-in_err-l1.ensures (c.flag-cabac.ensures ⟫ c.in_ok-l0.ensures.value ⟫ stop c.in_err-l1.ensures.value)
+
+pub returns-in_err-offset : goal.returns-in_err-offset
+unfolding references ◌>>=◌ number
+returns-in_err-offset c = exit references c.from_residual-in_err-offset.ensures (c.flag-cabac.ensures ⟫ c.in_ok-l0.ensures.value ⟫ c.in_ok-l1.ensures.value ⟫ c.flag-rpl1.ensures ⟫ c.flag-weighted.ensures ⟫ c.flag-bipred.ensures ⟫ c.flag-wraparound.ensures ⟫ stop (c.in_err-offset.ensures _))
+
+pub returns-in_err-qp : goal.returns-in_err-qp
+unfolding references ◌>>=◌ number
+returns-in_err-qp c = exit references c.from_residual-in_err-qp.ensures (c.flag-cabac.ensures ⟫ c.in_ok-l0.ensures.value ⟫ c.in_ok-l1.ensures.value ⟫ c.flag-rpl1.ensures ⟫ c.flag-weighted.ensures ⟫ c.flag-bipred.ensures ⟫ c.flag-wraparound.ensures ⟫ (c.in_ok-offset.ensures _) ⟫ stop c.in_err-qp.ensures)
+
 pub returns : goal.returns
-unfolding references
-returns c = let qp : SFits w32 c.se-qp.result.value = search rules in
-    rw (to_z-of_z qp)
-    (reads-done _ _ _
-    ∙ reads _ _ _ _ (byte-field _ _ 1 c.flag-delta.ensures)
-    ∙ reads _ _ _ _ (ap signed_parsed c.se-qp.ensures)
-    ∙ reads _ _ _ _ (ue-field _ _ _ 0 0 c.ue_or-offset.ensures)
-    ∙ reads _ _ _ _ (byte-field _ _ 1 c.flag-wraparound.ensures)
-    ∙ reads _ _ _ _ (byte-field _ _ 1 c.flag-bipred.ensures)
-    ∙ reads _ _ _ _ (byte-field _ _ 1 c.flag-weighted.ensures)
-    ∙ reads _ _ _ _ (byte-field _ _ 1 c.flag-rpl1.ensures)
-    ∙ reads _ _ _ _ (tested_always _ _ (λ v. leb v 14) 20 (lit< tt) 0 c.ue_at_most-l1.ensures)
-    ∙ reads _ _ _ _ (tested_always _ _ (λ v. leb v 14) 20 (lit< tt) 0 c.ue_at_most-l0.ensures)
-    ∙ reads _ _ _ _ (byte-field _ _ 1 c.flag-cabac.ensures))
+unfolding references ◌>>=◌ number
+returns c = let qp : SFits w32 c.in_ok-qp.qp = search rules in
+    rw (to_z-of_z qp) (follows references (c.flag-cabac.ensures ⟫ c.in_ok-l0.ensures.value ⟫ c.in_ok-l1.ensures.value ⟫ c.flag-rpl1.ensures ⟫ c.flag-weighted.ensures ⟫ c.flag-bipred.ensures ⟫ c.flag-wraparound.ensures ⟫ (c.in_ok-offset.ensures _) ⟫ c.in_ok-qp.ensures ⟫ c.flag-delta.ensures ⟫ end))

@@ -1,0 +1,10 @@
+use Rattle.std.proofs.Common.{refl}
+use Rattle.syntax.proofs.Steps.{coded, uncoded}
+use Rattle.bit_reader.proofs.Gives.{given}
+use Rattle.pps_fields.proofs.fields.ue_or.Goals as goal
+
+pub returns-then-on : goal.returns-then-on
+returns-then-on c = λ n. coded _ _ _ c.if-on.true c.ue.ensures
+
+pub returns-else-on : goal.returns-else-on
+returns-else-on c = λ n. uncoded _ _ _ c.if-on.false (given refl refl)
