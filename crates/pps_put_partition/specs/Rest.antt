@@ -1,17 +1,20 @@
 -- What stands behind the grid, and the whole block, as code comes to them.
-use Rattle.std.specs.Prelude.{ℕ, zero, suc, ◌≤◌, ◌<◌, min, ◌≡◌, refl, List, [], ◌∷◌, Bool, true, false, not, ◌&&◌, eqb, ltb, length, take}
-use Rattle.std.proofs.Common.{sym, ap, ap₂, ◌∙◌, arith, length-take, eqb-true, eq-eqb, ne_eqb}
-use Rattle.std.proofs.lemmas.Bool.{eqb-false}
+use Rattle.std.specs.Prelude.{ℕ, zero, suc, ◌≤◌, min, ◌≡◌, refl, List, [], ◌∷◌, Bool, true, false, not, ◌&&◌, eqb, ltb, length, take}
+use Rattle.std.proofs.Common.{sym, ap, ap₂, ◌∙◌, arith, length-take, eq-eqb, ne_eqb}
 use Rattle.codes.specs.Coded.{flag_bit, only_if}
 use Rattle.codes.specs.Symbols.{Symbol, putting, check, check-true, first, first-left}
-use Rattle.bit_writer.specs.Writing.{Writing, play, with_refusal, feed}
+use Rattle.bit_writer.specs.Writing.{Writing, play, play-none, with_refusal, feed}
 use Rattle.bit_writer.specs.Played.{played, feed-refusal}
 use Rattle.codes.specs.Symbols as symbols
 use Rattle.partition.specs.Entry.{first_position}
 use Rattle.partition.specs.Grid.{Grid, max_tile_columns, max_tiles, grid_with}
 use Rattle.partition.specs.Partition.{tile_grid}
-use Rattle.grid_sizes.specs.declared.SizesAnswer.{SizesAnswer}
-use Rattle.grid_sizes.specs.Answers.{grid_sizes, grid_of_sizes}
+use Rattle.std.specs.Prelude.{Result, Ok, Err}
+use Rattle.refusal.specs.declared.Refusal.{Refusal}
+use Rattle.refusal.specs.Numbers.{number, refused}
+use Rattle.refusal.proofs.Numbers.{number_above0}
+use Rattle.grid_sizes.specs.declared.GridSizes.{GridSizes}
+use Rattle.grid_sizes.specs.Answers.{with_number, grid_sizes, grid_of_sizes}
 use Rattle.grid_sizes.specs.Laws.{grid-sizes}
 use Rattle.pps_record.specs.declared.VvcPpsPartition.{VvcPpsPartition}
 use Rattle.syntax.specs.Elements.{or_else, is_set}
@@ -93,13 +96,12 @@ rest-made g f rs across w {many} {a} {b} m p q r =
     (q ∙ ap (slices_put g (codes f) (is_set f.pps_tile_idx_delta_present_flag) f.pps_num_slices_in_pic_minus1 rs) (p ∙ ap (λ (x : Bool). flags_put x f w) m))
 
 -- the grid that sizes made from it hold
-sizes-back : (ws hs : List ℕ) → grid_in (grid_of_sizes ws hs).sizes ≡ grid_with ws hs
+sizes-back : (ws hs : List ℕ) → grid_in (grid_of_sizes ws hs) ≡ grid_with ws hs
 unfolding grid_of_sizes
 sizes-back ws hs = ap₂ grid_with (front-is max_tile_columns ws _ _ refl refl) (front-is max_tiles hs _ _ refl refl)
 
-module _ (W H : ℕ) (p : VvcPpsPartition) (ws hs : List ℕ) (rs : List RectSlice) (w : Writing) {a b : Writing} {r : SizesAnswer}
-    (tiles_are : a ≡ tiles_put W H p.pps_log2_ctu_size_minus5 ws hs w) (answer_is : r ≡ grid_sizes W H p.pps_log2_ctu_size_minus5 ws hs)
-    (made : b ≡ play a (check (eqb r.refused 0) r.refused)) where
+module _ (W H : ℕ) (p : VvcPpsPartition) (ws hs : List ℕ) (rs : List RectSlice) (w : Writing) (a : Writing) (r : Result GridSizes Refusal)
+    (tiles_are : a ≡ tiles_put W H p.pps_log2_ctu_size_minus5 ws hs w) (answer_is : with_number r ≡ grid_sizes W H p.pps_log2_ctu_size_minus5 ws hs) where
   abbrev ctu : ℕ
   ctu = p.pps_log2_ctu_size_minus5
 
@@ -109,34 +111,43 @@ module _ (W H : ℕ) (p : VvcPpsPartition) (ws hs : List ℕ) (rs : List RectSli
   abbrev rest : Writing → Writing
   rest = rest_put g (several g) (flags_of p) rs p.pps_loop_filter_across_slices_enabled_flag
 
-  tested-grid : b ≡ grid_put W H ctu ws hs (tiles_put W H ctu ws hs w)
-  tested-grid = grid-put W H ctu ws hs w tiles_are answer_is made
+  abbrev Put : Writing → Type 0
+  Put v = v ≡ play_on w (symbols_for (partition W H) (block_with p ws hs rs))
 
-  pub block-stops : (b.sink.refused ≡ 0 → ⊥) → b ≡ play_on w (symbols_for (partition W H) (block_with p ws hs rs))
-  block-stops h = sym (rest-refused g (several g) (flags_of p) rs p.pps_loop_filter_across_slices_enabled_flag b h) ∙ ap rest tested-grid ∙ block-put W H (block_with p ws hs rs) w
+  module _ {b : Writing} (made : b ≡ play a (check (eqb (refused r) 0) (refused r))) where
+    tested-grid : b ≡ grid_put W H ctu ws hs (tiles_put W H ctu ws hs w)
+    tested-grid = grid-put W H ctu ws hs w r tiles_are answer_is made
 
-  accepted : b.sink.refused ≡ 0 → r.refused ≡ 0
-  accepted z = cases (eqb r.refused 0) refl made
+    stops : (b.sink.refused ≡ 0 → ⊥) → Put b
+    stops h = sym (rest-refused g (several g) (flags_of p) rs p.pps_loop_filter_across_slices_enabled_flag b h) ∙ ap rest tested-grid ∙ block-put W H (block_with p ws hs rs) w
+
+  -- the grid refuses
+  pub block-refused : (e : Refusal) → r ≡ Err e → {n : ℕ} → n ≡ number e → {b : Writing} → b ≡ play a (check false n) → Put b
+  unfolding refused
+  block-refused e q {n} h {b} m =
+      let made : b ≡ play a (check (eqb (refused r) 0) (refused r)) = m ∙ rw (q, h, ne_eqb (number e) 0 (above e)) in
+      stops made (λ z. not-true (passed a false n (omega (arith, number_above0 e)) m z).0)
     where
-      cases : (t : Bool) → eqb r.refused 0 ≡ t → b ≡ play a (check t r.refused) → r.refused ≡ 0
-      cases true e h = eqb-true _ _ e
-      cases false e h = absurd (not-true (passed a false r.refused (above r.refused (eqb-false _ _ e)) h z).0)
-        where
-          above : (n : ℕ) → (n ≡ 0 → ⊥) → 0 < n
-          above zero q = absurd (q refl)
-          above (suc n) q = omega arith
+      above : (e : Refusal) → number e ≡ 0 → ⊥
+      above e z = omega (arith, number_above0 e)
 
-  -- unless that is refused, the answer is the grid
-  grid-held : b.sink.refused ≡ 0 → grid_in r.sizes ≡ g
-  grid-held z =
-      let fine = sym (ap (λ (x : SizesAnswer). x.refused) answer_is) ∙ accepted z in
-      ap (λ (x : SizesAnswer). grid_in x.sizes) (answer_is ∙ grid-sizes W H ctu ws hs fine) ∙ sizes-back g.column_widths g.row_heights
+  module _ (s : GridSizes) (is : r ≡ Ok s) where
+    made : a ≡ play a (check (eqb (refused r) 0) (refused r))
+    unfolding refused
+    made = rw is (sym (ap (play a) (check-true true 0 refl) ∙ play-none a))
 
-  abbrev rest_in : Grid → Writing → Writing
-  rest_in x = rest_put x (several x) (flags_of p) rs p.pps_loop_filter_across_slices_enabled_flag
+    pub block-stops : (a.sink.refused ≡ 0 → ⊥) → Put a
+    block-stops h = stops made h
 
-  pub block_goes : {v : Writing} → b.sink.refused ≡ 0 → v ≡ rest_in (grid_in r.sizes) b → v ≡ play_on w (symbols_for (partition W H) (block_with p ws hs rs))
-  block_goes z e = e ∙ ap (λ (x : Grid). rest_in x b) (grid-held z) ∙ ap rest tested-grid ∙ block-put W H (block_with p ws hs rs) w
+    -- the answer is the grid
+    grid-held : grid_in s ≡ g
+    grid-held = ap grid_in (grid-sizes W H ctu ws hs s (sym (ap with_number is) ∙ answer_is)) ∙ sizes-back g.column_widths g.row_heights
+
+    abbrev rest_in : Grid → Writing → Writing
+    rest_in x = rest_put x (several x) (flags_of p) rs p.pps_loop_filter_across_slices_enabled_flag
+
+    pub block_goes : {v : Writing} → v ≡ rest_in (grid_in s) a → Put v
+    block_goes e = e ∙ ap (λ (x : Grid). rest_in x a) grid-held ∙ ap rest (tested-grid made) ∙ block-put W H (block_with p ws hs rs) w
 
 -- ---- beside an earlier refusal: the block is put up to its own
 pub outer : (W : Writing) (xs : List Symbol) {v : Writing} → v ≡ play_on (with_refusal W 0) xs → with_refusal v (first W.sink.refused v.sink.refused) ≡ play W (up_to_refusal xs)

@@ -75,19 +75,21 @@ fn put_block(
         tile_column_widths,
         tile_row_heights,
     );
-    let answer = grid_sizes(
+    match grid_sizes(
         pic_width,
         pic_height,
         ctu,
         tile_column_widths,
         tile_row_heights,
-    );
-    let b = demand(a, answer.refused == 0, answer.refused);
-    if b.refused != 0 {
-        return b;
+    ) {
+        Err(refusal) => demand(a, false, refusal.number()),
+        Ok(sizes) => {
+            if a.refused != 0 {
+                return a;
+            }
+            put_slicing(a, out, sizes, p, entries, split_heights)
+        }
     }
-    let sizes = answer.sizes;
-    put_slicing(b, out, sizes, p, entries, split_heights)
 }
 
 // The partition block of a picture of so many luma samples, up to its first refusal: 9 to 19, 25, 26 in the order of

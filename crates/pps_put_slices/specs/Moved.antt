@@ -1,19 +1,21 @@
 -- The way to the next slice's tile, as code comes to it.
-use Rattle.std.specs.Prelude.{ℕ, suc, ◌≤◌, ◌<◌, min, refl, List, ◌++◌, Bool, ◌&&◌, ℤ}
+use Rattle.std.specs.Prelude.{ℕ, suc, ◌≤◌, ◌<◌, min, refl, List, ◌++◌, Bool, ◌&&◌, ℤ, Result, is_ok}
+use Rattle.std.specs.Result.{result_unwrap_or}
 use Rattle.std.proofs.Math.Path.{◌≡◌, sym, ap}
 use Rattle.std.proofs.Common.{◌∙◌, append-nil, arith, lit<}
 use Rattle.std.proofs.Math.Bool.{true, false, not, cond}
 use Rattle.std.specs.Bool.{beq}
-use Rattle.std.proofs.Math.Dec.{eqb, ltb}
+use Rattle.std.proofs.Math.Dec.{ltb}
 use borrow.Author.Tests.{ltb-true, ltb-false}
 use Rattle.codes.specs.Coded.{se_symbols, only_if}
 use Rattle.codes.specs.Symbols.{Symbol, check}
 use Rattle.bit_writer.specs.Writing.{Writing, play}
 use Rattle.partition.specs.Entry.{tile_after_delta, delta_refused, default_advance}
 use Rattle.slice_loop.specs.declared.TileIdx.{TileIdx}
-use Rattle.slice_loop.specs.declared.NextTile.{NextTile}
+use Rattle.refusal.specs.declared.Refusal.{Refusal}
 use Rattle.slice_loop.specs.Answers.{tile_idx_of, next_by_delta}
-use Rattle.slice_loop.specs.Laws.{held-tile, held_outside, delta-number, delta-tile}
+use Rattle.slice_loop.specs.Laws.{held-tile, held_outside, delta-tile}
+use Rattle.slice_loop.proofs.Moved.{delta-ok}
 use Rattle.syntax.specs.Elements.{is_set}
 use Rattle.syntax.specs.Round.{and_parts}
 use Rattle.pps_syntax.specs.SameTests.{not-under, twice}
@@ -32,12 +34,9 @@ inside-same : (tiles x : ℕ) → tiles ≤ 4294967295 → ltb (tile_idx_of x).0
 inside-same tiles x h =
     sym (twice (ltb (tile_idx_of x).0 tiles)) ∙ ap not (not-under (tile_idx_of x).0 tiles ∙ held_outside tiles x h ∙ sym (not-under x tiles)) ∙ twice (ltb x tiles)
 
-delta-fine : (tiles t : ℕ) (d : ℤ) → eqb (next_by_delta tiles t d).refused 0 ≡ not (delta_refused tiles t d)
-delta-fine tiles t d = rw (delta-number tiles t d) (cases (delta_refused tiles t d))
-  where
-    cases : (b : Bool) → eqb (cond b 18 0) 0 ≡ not b
-    cases true = refl
-    cases false = refl
+-- the tile in an answer, the first where there is none
+abbrev tile_in : Result TileIdx Refusal → TileIdx
+tile_in n = result_unwrap_or n (record { 0 = 0 })
 
 not-false : (x : Bool) → not x ≡ true → x ≡ false
 not-false true e = sym e
@@ -69,16 +68,16 @@ module _ (columns tiles : ℕ) (deltas : Bool) (N last t width height present : 
   agreed : a ≡ play_on w pre
   agreed = tested w 26 (ok_is ∙ rw more_is) made
 
-  pub moved_by : {b v : Writing} {d : ℤ} {n : NextTile} {slice tile : ℕ} → (deltas && more) ≡ true → d ≡ delta → b ≡ play_on a (se_symbols d) → n ≡ next_by_delta tiles t d
-      → v ≡ play b (check (eqb n.refused 0) 18) → slice ≡ min (suc last) N → tile ≡ n.tile_idx.0 → Moved columns tiles deltas N last t width height present delta w v slice tile
+  pub moved_by : {b v : Writing} {d : ℤ} {n : Result TileIdx Refusal} {good : Bool} {to : TileIdx} {slice tile : ℕ} → (deltas && more) ≡ true → d ≡ delta → b ≡ play_on a (se_symbols d) → n ≡ next_by_delta tiles t d
+      → good ≡ is_ok n → v ≡ play b (check good 18) → slice ≡ min (suc last) N → to ≡ result_unwrap_or n (record { 0 = 0 }) → tile ≡ to.0 → Moved columns tiles deltas N last t width height present delta w v slice tile
   unfolding move_symbols
-  moved_by {b} {v} {d} {n} {slice} {tile} c e p q r s u =
+  moved_by {b} {v} {d} {n} {good} {to} {slice} {tile} c e p q o r s f u =
       let both : (deltas && ltb last N) ≡ true = rw (← more_is) c in
-      let number : eqb n.refused 0 ≡ not (delta_refused tiles t delta) = ap (λ (x : NextTile). eqb x.refused 0) (q ∙ ap (next_by_delta tiles t) e) ∙ delta-fine tiles t delta in
+      let number : good ≡ not (delta_refused tiles t delta) = o ∙ ap (λ (x : Result TileIdx Refusal). is_ok x) (q ∙ ap (next_by_delta tiles t) e) ∙ delta-ok tiles t delta in
       record {
         put = on_then w pre by agreed (on_then a (se_symbols delta) _ (p ∙ rw e) (tested b 18 number r)) ∙ ap (play_on w) (sym (move-by deltas (ltb last N) pre by on both));
         slice_is = λ z. s;
-        tile_is = λ z _. rw (and_parts deltas (ltb last N) both).0 (u ∙ ap (λ (x : NextTile). x.tile_idx.0) (q ∙ ap (next_by_delta tiles t) e) ∙ delta-tile tiles t delta bound (not-false _ (sym number ∙ (passed b (eqb n.refused 0) 18 (lit< tt) r z).0)));
+        tile_is = λ z _. rw (and_parts deltas (ltb last N) both).0 (u ∙ ap (λ (x : TileIdx). x.0) f ∙ ap (λ (x : Result TileIdx Refusal). (tile_in x).0) (q ∙ ap (next_by_delta tiles t) e ∙ delta-tile tiles t delta bound (not-false _ (sym number ∙ (passed b good 18 (lit< tt) r z).0))));
       }
 
   pub moved_on : {v : Writing} {to : TileIdx} {within : Bool} {slice tile : ℕ} → (deltas && more) ≡ false → more ≡ true → to ≡ tile_idx_of (default_advance columns t width height)

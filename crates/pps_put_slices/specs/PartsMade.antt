@@ -1,5 +1,5 @@
 -- How code comes to the parts of an entry: from what its calls give to `Parts`.
-use Rattle.std.specs.Prelude.{ℕ, ◌+◌, ◌-◌, ◌≤◌, ◌≡◌, refl, List, [], ◌∷◌, Bool, true, false, not, cond, eqb, ltb, leb, length}
+use Rattle.std.specs.Prelude.{ℕ, ◌+◌, ◌-◌, ◌≤◌, ◌≡◌, refl, List, [], ◌∷◌, Bool, true, false, not, eqb, ltb, leb, length}
 use Rattle.std.proofs.Common.{sym, ◌∙◌, arith, lit<, eqb-true, leb-true}
 use Rattle.std.proofs.Math.Path.{ap}
 use Rattle.std.specs.Bool.{beq}
@@ -10,9 +10,12 @@ use Rattle.bit_writer.specs.Writing.{Writing, play}
 use Rattle.partition.specs.Entry.{tile_x, tile_y, width_coded, height_coded, num_slices_in_tile, split_heights}
 use Rattle.partition.specs.Sizes.{sum, explicit_sizes}
 use Rattle.partition.proofs.Sizes.{some_size}
-use Rattle.tile_sizes.specs.declared.SlicesInTile.{SlicesInTile}
+use Rattle.refusal.specs.declared.Refusal.{Refusal}
+use Rattle.std.specs.Prelude.{Result, is_ok}
+use Rattle.std.specs.Result.{result_unwrap_or}
 use Rattle.tile_sizes.specs.Answers.{slices_in_tile}
-use Rattle.tile_sizes.specs.Laws.{slices-number, slices-count}
+use Rattle.tile_sizes.specs.Laws.{slices-count}
+use Rattle.tile_sizes.proofs.Split.{slices-ok}
 use Rattle.syntax.specs.Elements.{is_set}
 use Rattle.partition.specs.Checks.{not_past}
 use Rattle.pps_put_slices.specs.Stop.{play_on, on_then, on-refused, passed}
@@ -63,32 +66,28 @@ unfolding num_slices_in_tile split_heights
 some-slice [] row = omega arith
 some-slice (h ∷ hs) row = some_size (h ∷ hs) row (λ z. omega arith)
 
-module _ (hs : List ℕ) (row : ℕ) {r : SlicesInTile} (e : r ≡ slices_in_tile hs row) where
-  fits : eqb r.refused 0 ≡ leb (sum (explicit_sizes hs)) row
-  fits = rw (e, slices-number hs row, ← not_past row (sum (explicit_sizes hs))) (cases (ltb row (sum (explicit_sizes hs))))
-    where
-      cases : (b : Bool) → eqb (cond b 16 0) 0 ≡ not b
-      cases true = refl
-      cases false = refl
+module _ (hs : List ℕ) (row : ℕ) {r : Result ℕ Refusal} {good : Bool} {slices : ℕ} (e : r ≡ slices_in_tile hs row) (o : good ≡ is_ok r) (u : slices ≡ result_unwrap_or r 1) where
+  fits : good ≡ leb (sum (explicit_sizes hs)) row
+  fits = o ∙ rw (e, slices-ok hs row, ← not_past row (sum (explicit_sizes hs)))
 
-  counted : eqb r.refused 0 ≡ true → r.num_slices ≡ num_slices_in_tile hs row
-  counted h = ap (λ (x : SlicesInTile). x.num_slices) e ∙ slices-count hs row (passes (ltb row (sum (explicit_sizes hs))) (not_past row (sum (explicit_sizes hs)) ∙ sym fits ∙ h))
+  counted : good ≡ true → slices ≡ num_slices_in_tile hs row
+  counted h = u ∙ ap (λ (x : Result ℕ Refusal). result_unwrap_or x 1) (e ∙ slices-count hs row (passes (ltb row (sum (explicit_sizes hs))) (not_past row (sum (explicit_sizes hs)) ∙ sym fits ∙ h)))
     where
       passes : (b : Bool) → not b ≡ true → b ≡ false
       passes true q = sym q
       passes false q = refl
 
-  module _ (c : Writing) {d : Writing} (h : d ≡ play c (check (eqb r.refused 0) 16)) where
+  module _ (c : Writing) {d : Writing} (h : d ≡ play c (check good 16)) where
     -- heights that fit give a slice
-    pub slices-some : d.sink.refused ≡ 0 → 1 ≤ r.num_slices
-    slices-some z = rw (counted (passed c (eqb r.refused 0) 16 (lit< tt) h z).0) (some-slice hs row)
+    pub slices-some : d.sink.refused ≡ 0 → 1 ≤ slices
+    slices-some z = rw (counted (passed c good 16 (lit< tt) h z).0) (some-slice hs row)
 
     -- and behind a refusal it does not matter how many there would be
-    last-test : (N i : ℕ) {v : Writing} → v ≡ play_on d (check (leb (i + r.num_slices - 1) N) 17) → v ≡ play_on d (check (leb (i + num_slices_in_tile hs row - 1) N) 17)
+    last-test : (N i : ℕ) {v : Writing} → v ≡ play_on d (check (leb (i + slices - 1) N) 17) → v ≡ play_on d (check (leb (i + num_slices_in_tile hs row - 1) N) 17)
     last-test N i {v} q = split (eqb d.sink.refused 0) refl
       where
         split : (b : Bool) → eqb d.sink.refused 0 ≡ b → v ≡ play_on d (check (leb (i + num_slices_in_tile hs row - 1) N) 17)
-        split true z = q ∙ ap (λ (n : ℕ). play_on d (check (leb (i + n - 1) N) 17)) (counted (passed c (eqb r.refused 0) 16 (lit< tt) h (eqb-true _ _ z)).0)
+        split true z = q ∙ ap (λ (n : ℕ). play_on d (check (leb (i + n - 1) N) 17)) (counted (passed c good 16 (lit< tt) h (eqb-true _ _ z)).0)
         split false z = q ∙ on-refused d _ (eqb-false _ _ z) ∙ sym (on-refused d _ (eqb-false _ _ z))
 
 -- a test leaves no refusal only where there was none
@@ -103,14 +102,14 @@ module _ (w : Writing) (split : Bool) (row N i present : ℕ) (hs : List ℕ) {a
   abbrev Split : Writing → ℕ → Type 0
   Split v last = (v ≡ play_on w (split_symbols split row N i present hs)) × (v.sink.refused ≡ 0 → last ≡ last_in i split row hs)
 
-  pub split-on : {b c d v : Writing} {n last : ℕ} {r : SlicesInTile} → split ≡ true → n ≡ length hs → b ≡ play_on a (size_symbols row 16 n) → c ≡ play_on b (sizes_symbols row 16 hs)
-      → r ≡ slices_in_tile hs row → d ≡ play c (check (eqb r.refused 0) 16) → v ≡ play_on d (check (leb (i + r.num_slices - 1) N) 17)
-      → (v.sink.refused ≡ 0 → last ≡ i + r.num_slices - 1) → Split v last
+  pub split-on : {b c d v : Writing} {n last slices : ℕ} {r : Result ℕ Refusal} {good : Bool} → split ≡ true → n ≡ length hs → b ≡ play_on a (size_symbols row 16 n) → c ≡ play_on b (sizes_symbols row 16 hs)
+      → r ≡ slices_in_tile hs row → good ≡ is_ok r → slices ≡ result_unwrap_or r 1 → d ≡ play c (check good 16) → v ≡ play_on d (check (leb (i + slices - 1) N) 17)
+      → (v.sink.refused ≡ 0 → last ≡ i + slices - 1) → Split v last
   unfolding split_symbols heights_symbols
-  split-on {b} {c} {d} {v} {n} {last} {r} s e p q f g h l = (
+  split-on {b} {c} {d} {v} {n} {last} {slices} {r} {good} s e p q f o u g h l = (
     on_then w _ _ (tested w 26 ok_is made)
-        (rw s (on_then a _ _ (on_then a _ _ (p ∙ ap (λ (k : ℕ). play_on a (size_symbols row 16 k)) e) (on_then b _ _ q (tested c 16 (fits hs row f) g))) (last-test hs row f c g N i h))),
-    λ z. rw s (l z ∙ ap (λ (k : ℕ). i + k - 1) (counted hs row f (passed c (eqb r.refused 0) 16 (lit< tt) g (none_before d _ h z)).0)),
+        (rw s (on_then a _ _ (on_then a _ _ (p ∙ ap (λ (k : ℕ). play_on a (size_symbols row 16 k)) e) (on_then b _ _ q (tested c 16 (fits hs row f o u) g))) (last-test hs row f o u c g N i h))),
+    λ z. rw s (l z ∙ ap (λ (k : ℕ). i + k - 1) (counted hs row f o u (passed c good 16 (lit< tt) g (none_before d _ h z)).0)),
   )
 
   pub split_off : {v : Writing} {last : ℕ} → split ≡ false → v ≡ play_on a (check (leb (i + 1 - 1) N) 17) → (v.sink.refused ≡ 0 → last ≡ i + 1 - 1) → Split v last

@@ -131,28 +131,10 @@ pub fn put_split(
         let b = put_size(a, out, row.0, 16, count);
         let c = put_sizes(b, out, row.0, 16, heights);
         let counted = num_slices_in_tile(heights, row);
-        let d = demand(c, counted.refused == 0, 16);
-        return last_slice(d, ctx, slice, counted.num_slices);
+        let d = demand(c, counted.is_ok(), 16);
+        return last_slice(d, ctx, slice, counted.unwrap_or(1));
     }
     last_slice(a, ctx, slice, 1)
-}
-
-// The slice index behind the last slice, at most n.
-fn slice_after(n: SliceIdx, last: SliceIdx) -> SliceIdx
-    ensures { result.0 ≡ min (suc last.0) n.0 }
-{
-    if last.0 < n.0 {
-        SliceIdx(last.0 + 1)
-    } else {
-        SliceIdx(n.0)
-    }
-}
-
-fn inside(ctx: SliceLoopCtx, tile: TileIdx) -> bool
-    ensures { result ≡ ltb tile.0 (ctx.num_tile_rows * ctx.num_tile_columns) }
-{
-    let tiles = ctx.num_tiles();
-    (tile.0 as u64) < tiles
 }
 
 // Where the next entry stands, unless there is a refusal.
@@ -188,19 +170,19 @@ pub fn put_move(
     if coded {
         let b = put_se(a, out, delta);
         let to = ctx.apply_delta(tile, delta);
-        let next = demand(b, to.refused == 0, 18);
-        let slice = slice_after(ctx.num_slices_minus1, last);
-        let tile = to.tile_idx;
+        let next = demand(b, to.is_ok(), 18);
+        let slice = ctx.slice_after(last);
+        let tile = to.unwrap_or(TileIdx(0));
         return SlicePut { slice, tile, next };
     }
     if more {
         let tile = ctx.default_advance(tile, width, height);
-        let within = inside(ctx, tile);
+        let within = ctx.has_tile(tile);
         let next = demand(a, within, 19);
-        let slice = slice_after(ctx.num_slices_minus1, last);
+        let slice = ctx.slice_after(last);
         return SlicePut { slice, tile, next };
     }
-    let slice = slice_after(ctx.num_slices_minus1, last);
+    let slice = ctx.slice_after(last);
     SlicePut {
         slice,
         tile,
