@@ -1,10 +1,3 @@
-pub mod SizeReads
-pub mod EntryReads
-pub mod EntrySteps
-pub mod EntryMade
-pub mod Moves
+pub mod Parts
 pub mod Entries
-pub mod Loop
 pub mod Grids
-pub mod Stuck
-pub mod Held

@@ -8,13 +8,13 @@ use pps_tables::{ENTRY_LEN, bits_of_delta, put_row};
 pub fn put_slice(r: RectSliceRead, i: u32, entries: &mut [[u32; ENTRY_LEN]])
     ensures { entries.new ≡ set entries.old i (read_row r) }
 {
-    let delta = bits_of_delta(r.delta);
+    let delta = bits_of_delta(r.delta.unwrap_or(0));
     let row = [
         r.width,
         r.height,
-        r.split_present,
-        r.split_count,
-        r.delta_present,
+        u32::from(r.split_count.is_some()),
+        r.split_count.unwrap_or(0),
+        u32::from(r.delta.is_some()),
         delta,
     ];
     put_row(entries, i, row);

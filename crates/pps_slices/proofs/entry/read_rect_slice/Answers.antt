@@ -1,16 +1,27 @@
--- The parts one behind the other: `entry-made`. A signed value is unchanged by the 32 bits of its field.
-use mir.Facts.{to_z-of_z}
-use mir.Syntax.{w32}
-use mir.Val.{SFits}
-use Rattle.pps_slices.specs.Entries.{entry-made}
-use Rattle.slice_loop.specs.Loop.{position}
-use borrow.Author.Rules.{rules}
+-- The parts one behind the other. A signed value is unchanged by the 32 bits of its field.
+use Rattle.pps_slices.proofs.Entries.{entry_exit, width_over, height_over, heights_over, table_over, way_over, no_width, no_height, no_split, no_way, entry_held}
 use Rattle.pps_slices.proofs.entry.read_rect_slice.Goals as goal
+
+pub returns-in_err-width : goal.returns-in_err-width
+returns-in_err-width c = λ g o. entry_exit g _ _ _ _ _ _ _ _ _ c.from_residual.ensures.1 (no_width g _ _ _ (width_over g _ _ o _ _ _ _ c.in_err-width.ensures))
+
+pub returns-in_err-height : goal.returns-in_err-height
+returns-in_err-height c = λ g o. entry_exit g _ _ _ _ _ _ _ _ _ c.from_residual-in_err-height.ensures.1 (no_height g _ _ _ (width_over g _ _ o _ _ _ _ c.in_ok-width.ensures) (height_over g _ _ o _ _ _ _ _ _ c.in_err-height.ensures))
+
+pub returns-in_err-heights : goal.returns-in_err-heights
+returns-in_err-heights c = λ g o. entry_exit g _ _ _ _ _ _ _ _ _ c.from_residual-in_err-heights.ensures.1
+    (no_split g _ _ _ (width_over g _ _ o _ _ _ _ c.in_ok-width.ensures) (height_over g _ _ o _ _ _ _ _ _ c.in_ok-height.ensures) c.requires.0
+    (heights_over g _ _ o _ _ _ _ _ _ _ c.row_height-row.ensures c.exp_block-split.ensures _ _ _ c.in_err-heights.ensures.gives))
+
+pub returns-in_err-to_next : goal.returns-in_err-to_next
+returns-in_err-to_next c = λ g o. entry_exit g _ _ _ _ _ _ _ _ _ c.from_residual-in_err-to_next.ensures.1
+    (no_way g _ _ _ (width_over g _ _ o _ _ _ _ c.in_ok-width.ensures) (height_over g _ _ o _ _ _ _ _ _ c.in_ok-height.ensures) c.requires.0
+    (heights_over g _ _ o _ _ _ _ _ _ _ c.row_height-row.ensures c.exp_block-split.ensures _ _ _ c.in_ok-heights.ensures.gives)
+    (way_over g _ _ o _ _ _ _ _ _ _ _ c.in_err-to_next.ensures))
 
 pub returns : goal.returns
 returns c = λ g o.
-    let fits : SFits w32 c.read_move-to_next.result.delta = search rules in
-    let a = c.args in
-    rw (to_z-of_z fits)
-    (entry-made g _ _ o (position a.slice.0 a.tile.0 a.preceding_height) _ _ c.read_width-width.result c.read_height-height.result _ _ _ _ _ c.read_move-to_next.result _ _ _ _ _ _
-    c.read_width-width.ensures c.read_height-height.ensures c.row_height-row.ensures c.exp_block-split.ensures c.read_split-heights.ensures c.read_move-to_next.ensures c.slice_after-slice.ensures c.flag_of.ensures c.flag_of-2.ensures)
+    entry_held g _ _ _ (width_over g _ _ o _ _ _ _ c.in_ok-width.ensures) (height_over g _ _ o _ _ _ _ _ _ c.in_ok-height.ensures) c.requires.0
+    (heights_over g _ _ o _ _ _ _ _ _ _ c.row_height-row.ensures c.exp_block-split.ensures _ _ _ c.in_ok-heights.ensures.gives)
+    (way_over g _ _ o _ _ _ _ _ _ _ _ c.in_ok-to_next.ensures) _ _ c.slice_after-slice.ensures
+    (table_over g _ _ o _ _ _ _ _ _ _ c.row_height-row.ensures c.exp_block-split.ensures c.read_height.new.r _ _ _ c.in_ok-heights.ensures.table)

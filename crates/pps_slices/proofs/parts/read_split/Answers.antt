@@ -1,10 +1,57 @@
-use mathlib.Core.Path.{refl, ap}
-use mathlib.Core.Bool.{not}
-use Rattle.pps_slices.specs.EntryMade.{unsplit_made, split-made}
+use Rattle.std.proofs.Common.{◌≡◌, Bool, true, false, not, refl, sym}
+use Rattle.refusal.specs.Numbers.{number}
+use Rattle.bit_reader.proofs.Gives.{at_exit}
+use Rattle.pps_slices.proofs.Splits.{unsplit, unsplit_table, uncounted, too_many, unread, unfit, passed, some_slices, split_made, split_table}
 use Rattle.pps_slices.proofs.parts.read_split.Goals as goal
 
-pub returns-then-not-split : goal.returns-then-not-split
-returns-then-not-split c = unsplit_made _ _ _ _ _ _ _ _ _ (ap not c.if-not-split.true) c.requires refl
+not-false : {b : Bool} → not b ≡ true → b ≡ false
+not-false {b} e = cases b e
+  where
+    cases : (b : Bool) → not b ≡ true → b ≡ false
+    cases true e = sym e
+    cases false e = refl
 
-pub returns : goal.returns
-returns c = split-made _ _ _ _ _ _ _ _ _ c.read_heights-heights.result _ _ _ _ _ (ap not c.if-not-split.false) (c.read_heights-heights.ensures.axis, c.read_heights-heights.ensures.table) c.demand-fits.ensures c.num_slices_in_tile-slices.ensures c.last_slice-last.ensures c.too_many_slices-past.ensures c.demand-next.ensures
+not-true : {b : Bool} → not b ≡ false → b ≡ true
+not-true {b} e = cases b e
+  where
+    cases : (b : Bool) → not b ≡ false → b ≡ true
+    cases true e = refl
+    cases false e = sym e
+
+pub returns-then-not-split-clause-gives : goal.returns-then-not-split-clause-gives
+returns-then-not-split-clause-gives c = unsplit _ _ _ _ c.if-not-split.true
+
+pub returns-then-not-split-clause-table : goal.returns-then-not-split-clause-table
+returns-then-not-split-clause-table c = unsplit_table _ _ _ _ c.args.r.now _ _ c.if-not-split.true
+
+pub returns-in_err-count-clause-gives : goal.returns-in_err-count-clause-gives
+unfolding number
+returns-in_err-count-clause-gives c = at_exit c.from_residual.ensures.1 (uncounted _ _ _ _ c.if-not-split.false c.in_err-count.ensures.value)
+
+pub returns-then-count-left-clause-gives : goal.returns-then-count-left-clause-gives
+unfolding number
+returns-then-count-left-clause-gives c = too_many _ _ _ _ c.if-not-split.false c.in_ok-count.ensures.value c.if-count-left.true
+
+pub returns-in_err-heights-clause-gives : goal.returns-in_err-heights-clause-gives
+unfolding number
+returns-in_err-heights-clause-gives c = at_exit c.from_residual-in_err-heights.ensures.1 (unread _ _ _ _ c.if-not-split.false c.in_ok-count.ensures.value c.if-count-left.false c.in_err-heights.ensures.axis)
+
+pub returns-then-not-heights-clause-gives : goal.returns-then-not-heights-clause-gives
+unfolding number
+returns-then-not-heights-clause-gives c = unfit _ _ _ _ c.if-not-split.false c.in_ok-count.ensures.value c.if-count-left.false c.in_ok-heights.ensures.axis (not-false c.if-not-heights.true)
+
+pub returns-then-too_many_slices-clause-gives : goal.returns-then-too_many_slices-clause-gives
+unfolding number
+returns-then-too_many_slices-clause-gives c = passed _ _ _ _ c.if-not-split.false c.in_ok-count.ensures.value c.if-count-left.false c.in_ok-heights.ensures.axis (not-true c.if-not-heights.false) c.num_slices_in_tile-slices.ensures c.if-too_many_slices.ensures
+
+pub overflow_sub-result : goal.overflow_sub-result
+unfolding number
+overflow_sub-result c = some_slices _ _ _ _ c.if-not-split.false c.in_ok-count.ensures.value c.if-count-left.false c.in_ok-heights.ensures.axis (not-true c.if-not-heights.false) c.num_slices_in_tile-slices.ensures
+
+pub returns-clause-gives : goal.returns-clause-gives
+unfolding number
+returns-clause-gives c = split_made _ _ _ _ c.if-not-split.false c.in_ok-count.ensures.value c.if-count-left.false c.in_ok-heights.ensures.axis (not-true c.if-not-heights.false) c.num_slices_in_tile-slices.ensures c.if-too_many_slices.ensures
+
+pub returns-clause-table : goal.returns-clause-table
+unfolding number
+returns-clause-table c = split_table _ _ _ _ c.if-not-split.false c.in_ok-count.ensures.value c.if-count-left.false c.in_ok-heights.ensures.axis (not-true c.if-not-heights.false) c.num_slices_in_tile-slices.ensures _ _ c.if-too_many_slices.ensures c.in_ok-heights.ensures.table

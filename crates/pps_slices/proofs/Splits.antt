@@ -1,0 +1,115 @@
+-- The explicit slice heights of a tile, as code comes to them.
+use Rattle.std.specs.Prelude.{ℕ, suc, ◌+◌, ◌-◌, ◌≤◌, ◌<◌, ◌≡◌, List, [], ◌∷◌, Bool, true, false, cond, eqb, ltb, leb, Result, Ok, Err, Some, None, length, refl}
+use Rattle.std.proofs.Common.{sym, ap, ap₂, ◌∙◌, arith, le-leb, ltb-true, ltb-false, ne_eqb, lit<}
+use Rattle.std.proofs.lemmas.Bool.{lt-leb}
+use Rattle.std.proofs.lemmas.List.Edits.{sets}
+use Rattle.refusal.specs.declared.Refusal.{Refusal}
+use Rattle.refusal.specs.declared.Refusal.TheVariants.{SplitHeights, TooManySplitSlices}
+use Rattle.refusal.specs.Numbers.{number}
+use Rattle.bit_reader.specs.declared.BitReader.{BitReader}
+use Rattle.bit_reader.specs.Gives.{Gives, held_as, tested, value_read, ue_parsed, cursor_of}
+use Rattle.bit_reader.proofs.Gives.{holds, holds-none, same-read}
+use Rattle.partition.specs.Entry.{num_slices_in_tile, split_heights}
+use Rattle.partition.proofs.Sizes.{length-sizes}
+use Rattle.partition.specs.Sizes.{axis_sizes, sum, explicit_sizes}
+use Rattle.syntax.specs.Elements.{ue, limited}
+use Rattle.syntax.specs.Lists.{many}
+use Rattle.syntax.specs.Syntax.{parse, ◌>>=◌}
+use Rattle.syntax.proofs.Steps.{Follows, ◌⟫◌, stop, held, fails, end}
+use Rattle.pps_fields.specs.declared.lists.AxisRead.{AxisRead}
+use Rattle.pps_fields.specs.Axis.{axis_of}
+use Rattle.pps_fields.specs.Sizes.{sizes_read, sizes-many}
+use Rattle.pps_slices.specs.declared.parts.SplitRead.{SplitRead}
+use Rattle.pps_slices.specs.Parts.{last_of, explicit_heights, split_part, split_kept}
+use Rattle.pps_slices.proofs.Chain.{was_read, was_refused}
+
+-- the slices of a tile by the number of its explicit heights
+slices_of : (hs : List ℕ) (row : ℕ) → cond (eqb (length hs) 0) 1 (length (axis_sizes hs row)) ≡ num_slices_in_tile hs row
+unfolding num_slices_in_tile split_heights
+slices_of [] row = refl
+slices_of (h ∷ hs) row = rw (ne_eqb (suc (length hs)) 0 (λ e. omega arith))
+
+-- there is one at least, and one for each explicit height
+pub slices_enough : (hs : List ℕ) (row : ℕ) → (length hs ≤ num_slices_in_tile hs row) × (1 ≤ num_slices_in_tile hs row)
+unfolding num_slices_in_tile split_heights
+slices_enough [] row = (omega arith, omega arith)
+slices_enough (x ∷ hs) row = (omega (arith, length-sizes (x ∷ hs) row), omega (arith, length-sizes (x ∷ hs) row))
+
+module _ (row N i : ℕ) where
+  abbrev pub Split : Bool → BitReader → BitReader → Result SplitRead Refusal → Type 0
+  Split split p q x = Gives (held_as (split_kept split row i) (parse (split_part split row N i))) p q x
+
+  kept : (split : Bool) {p q : BitReader} {hs : List ℕ} {r : SplitRead} → Follows (split_part split row N i) p q (Ok hs) → r ≡ split_kept split row i hs → Split split p q (Ok r)
+  kept split f e = holds (split_kept split row i) f.gives e
+
+  not-kept : (split : Bool) {p q : BitReader} {e : Refusal} → Follows (split_part split row N i) p q (Err e) → Split split p q (Err e)
+  not-kept split f = holds-none (split_kept split row i) f.gives
+
+  -- a tile that is not split
+  pub unsplit : (split : Bool) {p : BitReader} → split ≡ false → Split split p p (Ok (record { count = None; last = record { 0 = i } }))
+  unfolding split_part last_of num_slices_in_tile split_heights
+  unsplit split e = rw e (kept false end (ap (λ (n : ℕ). record { count = None; last = record { 0 = n } }) (omega arith)))
+
+  pub unsplit_table : (split : Bool) (p : BitReader) (t : List ℕ) (from : ℕ) → split ≡ false → t ≡ sets t from (value_read (parse (split_part split row N i)) p)
+  unfolding split_part parse
+  unsplit_table split p t from e = rw e
+
+  -- one that is
+  module _ (split : Bool) (S : split ≡ true) {p q : BitReader} where
+    pub uncounted : {e : Refusal} → Gives (tested (λ v. ltb v row) 16 ue_parsed) p q (Err e) → Split split p q (Err e)
+    unfolding split_part explicit_heights ◌>>=◌
+    uncounted g = rw S (not-kept true (stop g))
+
+    module _ {n : ℕ} (g : Gives (tested (λ v. ltb v row) 16 ue_parsed) p q (Ok n)) where
+      pub too_many : N - i + 1 < n → Split split p q (Err TooManySplitSlices)
+      unfolding split_part explicit_heights ◌>>=◌ number
+      too_many h = rw S (not-kept true (g ⟫ fails (lt-leb _ _ h) refl))
+
+      module _ (few : n ≤ N - i + 1) {r : BitReader} where
+        pub unread : {e : Refusal} → Gives (held_as (λ (es : List ℕ). axis_of es row) (sizes_read n row 16)) q r (Err e) → Split split p r (Err e)
+        unfolding split_part explicit_heights ◌>>=◌
+        unread a = rw S (not-kept true (g ⟫ held (le-leb _ _ few) (stop (same-read (sizes-many n row 16 26 (lit< tt) q.bytes.now (cursor_of q)) (was_refused (λ (es : List ℕ). axis_of es row) (sizes_read n row 16) a)))))
+
+        module _ {a : AxisRead} (A : Gives (held_as (λ (es : List ℕ). axis_of es row) (sizes_read n row 16)) q r (Ok a)) where
+          abbrev hs : List ℕ
+          hs = value_read (sizes_read n row 16) q
+
+          is : axis_of hs row ≡ a
+          is = A.value
+
+          fits_is : leb (sum (explicit_sizes hs)) row ≡ a.fits
+          unfolding axis_of
+          fits_is = ap (λ (x : AxisRead). x.fits) is
+
+          listed : Gives (many n (limited ue (λ v. ltb v row) 16 (lit< tt)) 26).read q r (Ok hs)
+          listed = same-read (sizes-many n row 16 26 (lit< tt) q.bytes.now (cursor_of q)) (was_read (λ (es : List ℕ). axis_of es row) (sizes_read n row 16) A)
+
+          pub unfit : a.fits ≡ false → Split split p r (Err SplitHeights)
+          unfolding split_part explicit_heights ◌>>=◌ number
+          unfit h = rw S (not-kept true (g ⟫ held (le-leb _ _ few) (listed ⟫ fails (fits_is ∙ h) refl)))
+
+          module _ (fit : a.fits ≡ true) {k : ℕ} (K : k ≡ cond (eqb a.count 0) 1 a.sizes) where
+            slices_are : k ≡ num_slices_in_tile hs row
+            unfolding axis_of
+            slices_are = K ∙ rw (← is) (slices_of hs row)
+
+            pub some_slices : 1 ≤ k
+            some_slices = omega (arith, slices_are, slices_enough hs row)
+
+            pub passed : true ≡ ltb N (i + k - 1) → Split split p r (Err TooManySplitSlices)
+            unfolding split_part explicit_heights ◌>>=◌ number last_of
+            passed h = rw S (not-kept true (g ⟫ held (le-leb _ _ few) (listed ⟫ held (fits_is ∙ fit) (fails (lt-leb _ _ (omega (arith, ltb-true N (i + k - 1) (sym h), slices_are))) refl))))
+
+            all : false ≡ ltb N (i + k - 1) → Follows (split_part true row N i) p r (Ok hs)
+            unfolding split_part explicit_heights ◌>>=◌ last_of
+            all h = g ⟫ held (le-leb _ _ few) (listed ⟫ held (fits_is ∙ fit) (held (le-leb _ _ (omega (arith, ltb-false N (i + k - 1) (sym h), slices_are))) end))
+
+            pub split_made : false ≡ ltb N (i + k - 1) → Split split p r (Ok (record { count = Some a.count; last = record { 0 = i + (k - 1) } }))
+            unfolding last_of axis_of
+            split_made h =
+                let some = slices_enough hs row in
+                let last : i + (k - 1) ≡ last_of i row hs = omega (arith, slices_are) in
+                rw S (kept true (all h) (ap₂ (λ (m l : ℕ). record { count = Some m; last = record { 0 = l } }) (ap (λ (x : AxisRead). x.count) (sym is)) last))
+
+            pub split_table : (t : List ℕ) {u : List ℕ} (from : ℕ) → false ≡ ltb N (i + k - 1) → u ≡ sets t from hs → u ≡ sets t from (value_read (parse (split_part split row N i)) p)
+            split_table t from h e = rw S (e ∙ ap (sets t from) (sym (all h).gives.value))
