@@ -8,15 +8,17 @@ pub fn open(rt: &impl Print, height: u32) {
     let all = height.saturating_add(1300);
     let tenth = all / 10;
     let _ = println!(rt;
-        "<svg xmlns='http://www.w3.org/2000/svg' viewBox='0 0 10000 {all}' width='1000' height='{tenth}' font-family='sans-serif'>"
+        "<svg xmlns='http://www.w3.org/2000/svg' viewBox='0 0 10000 {all}' \
+        width='1000' height='{tenth}' font-family='sans-serif'>"
     );
-    let _ = rt.write_all(
-        b"<defs>
-<pattern id='gap' width='80' height='80' patternUnits='userSpaceOnUse' patternTransform='rotate(45)'><rect width='80' height='80' fill='#fdd'/><rect width='30' height='80' fill='#d00'/></pattern>
-<pattern id='double' width='80' height='80' patternUnits='userSpaceOnUse' patternTransform='rotate(-45)'><rect width='15' height='80' fill='#00c'/></pattern>
-</defs>
-<rect width='100%' height='100%' fill='#fff'/>
-",
+    let _ = rt.println(
+        "<defs>\n\
+        <pattern id='gap' width='80' height='80' patternUnits='userSpaceOnUse' patternTransform='rotate(45)'>\
+        <rect width='80' height='80' fill='#fdd'/><rect width='30' height='80' fill='#d00'/></pattern>\n\
+        <pattern id='double' width='80' height='80' patternUnits='userSpaceOnUse' patternTransform='rotate(-45)'>\
+        <rect width='15' height='80' fill='#00c'/></pattern>\n\
+        </defs>\n\
+        <rect width='100%' height='100%' fill='#fff'/>",
     );
 }
 
@@ -75,7 +77,8 @@ pub fn refused(rt: &impl Print, refused: Refused) {
 pub fn unpartitioned(rt: &impl Print, width: u32, height: u32) {
     open(rt, 0);
     let _ = println!(rt;
-        "<text x='200' y='500' font-size='230'>picture {width} x {height}, not partitioned into tiles</text>"
+        "<text x='200' y='500' font-size='230'>picture {width} x {height}, \
+        not partitioned into tiles</text>"
     );
     close(rt);
 }

@@ -30,8 +30,8 @@ fn scaled(place: u32, ctbs: u32, units: u32) -> u32 {
 }
 
 impl Frame {
-    // Blocks are drawn square, unless the picture would then be lower than an eighth of its width or higher than one and
-    // a half of it. The more tiles or slices stand side by side, the thinner are their borders.
+    // Blocks are drawn square, unless the picture would then be lower than an eighth of its width or higher than one
+    // and a half of it. The more tiles or slices stand side by side, the thinner are their borders.
     pub fn new(ctbs_across: u32, ctbs_down: u32, columns: u32, rows: u32, slices: u32) -> Frame {
         let square = scaled(ctbs_down, ctbs_across, WIDTH);
         let in_a_column = slices.checked_div(columns).unwrap_or(0);

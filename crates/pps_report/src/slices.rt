@@ -21,7 +21,8 @@ pub fn draw_slices(rt: &impl Print, slices: &[Rect], frame: Frame) {
         let area = frame.area(slice).inset(border / 2);
         let hue = i % 360 * 137 % 360;
         let _ = println!(rt;
-            "<rect {area} fill='hsl({hue},70%,75%)' fill-opacity='.6' stroke='#222' stroke-width='{border}'/>"
+            "<rect {area} fill='hsl({hue},70%,75%)' fill-opacity='.6' \
+            stroke='#222' stroke-width='{border}'/>"
         );
     }
 }
