@@ -8,6 +8,8 @@ use Rattle.std.proofs.Math.ListN.{get_or, drop, drop_of_length-le}
 use Rattle.std.proofs.Math.Seq.{drop-cons}
 use Rattle.refusal.specs.declared.Refusal.{Refusal}
 use Rattle.refusal.specs.Numbers.{number}
+use Rattle.bit_writer.specs.declared.BitWriter.{BitWriter}
+use Rattle.bit_writer.specs.Written.{written}
 use Rattle.bit_writer.specs.Writing.{Writing, with_refusal}
 use Rattle.bit_writer.specs.Stop.{play_on, on_none, on_then}
 use Rattle.bit_writer.proofs.Ended.{refused_before}
@@ -22,9 +24,10 @@ module _ {A : Type 0} (w : Writing) (e : Element A) (xs : List A) (i : ℕ) (d :
   unfolding each
   each_turn h p = on_then w (e.symbols (get_or xs i d)) (each e (drop (i + 1) xs)) p refl ∙ ap (λ (l : List A). play_on w (each e l)) (sym (drop_next h))
 
-  pub each_stop : (v : Writing) (n : Refusal) → i < length xs → with_refusal v (number n) ≡ play_on w (e.symbols (get_or xs i d)) → with_refusal v (number n) ≡ play_on w (each e (drop i xs))
+  pub each_stop : (t : BitWriter) (o : List ℕ) (n : Refusal) → i < length xs → with_refusal (written t o) (number n) ≡ play_on w (e.symbols (get_or xs i d))
+      → with_refusal (written t o) (number n) ≡ play_on w (each e (drop i xs))
   unfolding each
-  each_stop v n h p = refused_before w v n (e.symbols (get_or xs i d)) (each e (drop (i + 1) xs)) p ∙ ap (λ (l : List A). play_on w (each e l)) (sym (drop_next h))
+  each_stop t o n h p = refused_before w (written t o) n (e.symbols (get_or xs i d)) (each e (drop (i + 1) xs)) p ∙ ap (λ (l : List A). play_on w (each e l)) (sym (drop_next h))
 
 pub each_end : {A : Type 0} (w : Writing) (e : Element A) (xs : List A) (i : ℕ) → length xs ≤ i → play_on w (each e (drop i xs)) ≡ w
 unfolding each

@@ -36,6 +36,13 @@ missing {v} h = rw h
 pub both : {a b : Bool} → a ≡ true → b ≡ true → (a && b) ≡ true
 both p q = rw (p, q)
 
+pub and_true : (a b : Bool) → (a && b) ≡ true → (a ≡ true) × (b ≡ true)
+and_true true b h = (refl, h)
+and_true false b h = cc
+
+pub inside : {a : Bool} (b : Bool) → a ≡ true → b ≡ (a && b)
+inside b p = rw p
+
 pub not_first : {a : Bool} (b : Bool) → a ≡ false → (a && b) ≡ false
 not_first b p = rw p
 

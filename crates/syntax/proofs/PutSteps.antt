@@ -80,6 +80,10 @@ module _ {A : Type 0} (e y : Element A) {on : Bool} (x : A) (w : Writing) where
   unfolding or_else
   written_on h p = rw h p
 
+  pub written_off : {v : Writing} → on ≡ false → v ≡ play_on w (y.symbols x) → v ≡ play_on w ((or_else on e y).symbols x)
+  unfolding or_else
+  written_off h p = rw h p
+
   pub passed_over : {v : Writing} → on ≡ false → y.symbols x ≡ [] → v ≡ w → v ≡ play_on w ((or_else on e y).symbols x)
   unfolding or_else
   passed_over h z p = rw h (p ∙ sym (ap (play_on w) z ∙ on_none w))
