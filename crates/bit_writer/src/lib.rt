@@ -2,7 +2,7 @@
 // inside the output and counts always, so that a run over an empty output gives the exact length and any refusal.
 #![tactic(auto)]
 
-ghost use Rattle.std.specs.Prelude.{◌≡◌, true, List, [], ◌∷◌, ℕ, ◌%◌, min, OnOk};
+ghost use Rattle.std.specs.Prelude.{◌≡◌, true, false, List, [], ◌∷◌, ℕ, ◌%◌, min, OnOk, OnErr};
 ghost use Rattle.std.proofs.lemmas.List.Edits.{sets};
 ghost use Rattle.codes.specs.Bits.{to_bits};
 ghost use Rattle.codes.specs.Symbols.{putting, check};
@@ -55,6 +55,7 @@ pub struct Sink {
 pub fn test(ok: bool, refusal: Refusal) -> Result<(), Refusal>
     ensures put { (w : BitWriter) (o : List ℕ) → ended w o result ≡ play_on (written w o) (check ok (number refusal)) }
     ensures passed { OnOk result (ok ≡ true) }
+    ensures failed { OnErr result (ok ≡ false) }
 {
     if ok { Ok(()) } else { Err(refusal) }
 }

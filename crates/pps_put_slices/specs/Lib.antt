@@ -1,7 +1,5 @@
 pub mod Sizes
-pub mod Signed
 pub mod Parts
-pub mod PartsMade
 pub mod Moved
 pub mod EntryPut
 pub mod Tabled
