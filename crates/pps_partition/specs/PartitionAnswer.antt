@@ -18,6 +18,10 @@ use Rattle.pps_partition.specs.TileSizes.{TileSizes, tile_sizes}
 abbrev pub answer : VvcPpsPartition → Cursor → PartitionRead
 answer value next = record { value = value; next = next }
 
+-- the record of a block that was read
+abbrev pub one_block : PartitionBlock → VvcPpsPartition
+one_block b = partition_record 1 (b ∷ [])
+
 -- the block, or zeros where reading was refused
 unfoldable pub partition_answer : Parsed PartitionBlock → PartitionRead
 partition_answer p = answer (cond (eqb p.next.refused 0) (partition_record 1 (p.value ∷ [])) (partition_record 0 [])) p.next
