@@ -3,5 +3,6 @@ pub mod Examples
 pub mod Once
 pub mod ReadSteps
 pub mod Round
+pub mod PutSteps
 pub mod StopSteps
 pub mod WriteSteps
