@@ -82,6 +82,6 @@ filling_ends es whole u old out remaining j z f =
     w = f.done ∙ ap (λ (l : List ℕ). take j out ++ l) (end-left (drop j es) u remaining z f.fit) ∙ append-nil (take j out)
 
 pub grid-made : (ws hs a b : List ℕ) (columns rows : ℕ) → columns ≡ length ws → rows ≡ length hs → a ≡ table_of max_tile_columns ws → b ≡ table_of max_tiles hs
-    → record { refused = 0; sizes = record { num_tile_columns = columns; num_tile_rows = rows; column_widths = a; row_heights = b } } ≡ grid_of_sizes ws hs
+    → record { num_tile_columns = columns; num_tile_rows = rows; column_widths = a; row_heights = b } ≡ grid_of_sizes ws hs
 unfolding grid_of_sizes
 grid-made ws hs a b columns rows e f p q = rw (e, f, p, q)

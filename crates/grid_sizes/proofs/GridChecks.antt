@@ -1,5 +1,5 @@
 -- The checks of a grid as the code makes them, one function for each part of the list.
-use mathlib.Core.Path.{◌≡◌, sym, ap, ◌∙◌}
+use mathlib.Core.Path.{◌≡◌, refl, sym, ap, ◌∙◌}
 use mathlib.Core.List.{List, [], ◌∷◌, ◌++◌}
 use mathlib.Core.Bool.{Bool, true, false, cond}
 use Prim.Native.Nat.{ℕ, ◌/◌, ◌≤◌, ◌<◌, min}
@@ -14,8 +14,13 @@ use Rattle.partition.specs.Grid.{max_tile_columns, max_tiles}
 use Rattle.partition.specs.Checks.{Check, refuse, fine, refused_with, first_bad, number_of, AllPass, passes, first-left, first-right, fails, goes_on, ends, Numbered, zero-fine, number-refused}
 use Rattle.partition.specs.Entry.{some_at_least}
 use Rattle.partition.specs.Partition.{in_ctbs, tile_grid, explicit_checks, axis_checks, grid_checks}
-use Rattle.grid_sizes.specs.declared.SizesAnswer.{SizesAnswer}
-use Rattle.grid_sizes.specs.Answers.{grid_of_sizes, FitsTable, refused_sizes, sizes_for, grid_sizes}
+use Rattle.std.specs.Prelude.{Option, Some, None, Ok, Err, ok_or}
+use Rattle.refusal.specs.declared.Refusal.{Refusal}
+use Rattle.refusal.specs.declared.Refusal.TheVariants.{CtuSize, TileSizesSum}
+use Rattle.refusal.specs.Numbers.{number}
+use Rattle.refusal.proofs.Numbers.{number_above0}
+use Rattle.grid_sizes.specs.declared.GridSizes.{GridSizes}
+use Rattle.grid_sizes.specs.Answers.{grid_of_sizes, FitsTable, with_number, sizes_for, grid_sizes}
 
 -- ---- the explicit sizes
 
@@ -48,28 +53,42 @@ module _ (w h : ℕ) (ws hs : List ℕ) where
 
 -- ---- an axis
 
-module _ (es : List ℕ) (total limit : ℕ) (f : Bool) (hf : f ≡ leb (sum (explicit_sizes es)) total) where
+module _ (es : List ℕ) (total limit : ℕ) where
   abbrev axis_number : ℕ
   axis_number = number_of (first_bad (axis_checks es total limit))
 
-  pub axis-passed : f ≡ false → 12 ≡ axis_number
+  pub axis-passed : leb (sum (explicit_sizes es)) total ≡ false → 12 ≡ axis_number
   unfolding axis_checks
-  axis-passed q = fails 12 _ _ (lt-ltb total (sum (explicit_sizes es)) (leb-false (sum (explicit_sizes es)) total (sym hf ∙ q)))
+  axis-passed q = fails 12 _ _ (lt-ltb total (sum (explicit_sizes es)) (leb-false (sum (explicit_sizes es)) total q))
 
-  module _ (n : ℕ) (q : f ≡ true) (hn : n ≡ cond f (length (axis_sizes es total)) 0) where
-    pub axis-count : n ≡ length (axis_sizes es total)
-    axis-count = rw q at hn
-
+  module _ (n : ℕ) (q : leb (sum (explicit_sizes es)) total ≡ true) (hn : n ≡ length (axis_sizes es total)) where
     fitting : ltb total (sum (explicit_sizes es)) ≡ false
-    fitting = le-ltb total (sum (explicit_sizes es)) (leb-true (sum (explicit_sizes es)) total (sym hf ∙ q))
+    fitting = le-ltb total (sum (explicit_sizes es)) (leb-true (sum (explicit_sizes es)) total q)
 
     pub axis-over : limit < n → 13 ≡ axis_number
     unfolding axis_checks
-    axis-over l = goes_on 12 13 _ _ fitting (fails 13 _ _ (lt-ltb limit (length (axis_sizes es total)) (omega (arith, axis-count))))
+    axis-over l = goes_on 12 13 _ _ fitting (fails 13 _ _ (lt-ltb limit (length (axis_sizes es total)) (omega arith)))
 
     pub axis-within : n ≤ limit → 0 ≡ axis_number
     unfolding axis_checks
-    axis-within l = goes_on 12 0 _ _ fitting (goes_on 13 0 _ _ (le-ltb limit (length (axis_sizes es total)) (omega (arith, axis-count))) ends)
+    axis-within l = goes_on 12 0 _ _ fitting (goes_on 13 0 _ _ (le-ltb limit (length (axis_sizes es total)) (omega arith)) ends)
+
+-- as the count of its sizes tells
+module _ (es : List ℕ) (total limit : ℕ) (o : Option ℕ) (h : o ≡ cond (leb (sum (explicit_sizes es)) total) (Some (length (axis_sizes es total))) None) where
+  pub count-none : (e : Refusal) → ok_or o TileSizesSum ≡ Err e → number e ≡ number_of (first_bad (axis_checks es total limit))
+  unfolding number
+  count-none e q = split (leb (sum (explicit_sizes es)) total) refl (ap (λ (x : Option ℕ). ok_or x TileSizesSum) (sym h) ∙ q)
+    where
+      split : (b : Bool) → leb (sum (explicit_sizes es)) total ≡ b → ok_or (cond b (Some (length (axis_sizes es total))) None) TileSizesSum ≡ Err e → number e ≡ number_of (first_bad (axis_checks es total limit))
+      split true k z = absurd (let z : ◌≡◌ {A = ℕ} 0 1 = cc in omega arith)
+      split false k z = let t : TileSizesSum ≡ e = cc in ap number (sym t) ∙ axis-passed es total limit k
+
+  pub count-some : (n : ℕ) → ok_or o TileSizesSum ≡ Ok n → (leb (sum (explicit_sizes es)) total ≡ true) × (n ≡ length (axis_sizes es total))
+  count-some n q = split (leb (sum (explicit_sizes es)) total) refl (ap (λ (x : Option ℕ). ok_or x TileSizesSum) (sym h) ∙ q)
+    where
+      split : (b : Bool) → leb (sum (explicit_sizes es)) total ≡ b → ok_or (cond b (Some (length (axis_sizes es total))) None) TileSizesSum ≡ Ok n → (leb (sum (explicit_sizes es)) total ≡ true) × (n ≡ length (axis_sizes es total))
+      split true k z = (k, cc)
+      split false k z = absurd (let z : ◌≡◌ {A = ℕ} 0 1 = cc in omega arith)
 
 -- an axis that passes fits a table of at least the limit
 fits-table : (es : List ℕ) (total limit n count : ℕ) → (length es ≡ 0 → ⊥) → first_bad (axis_checks es total limit) ≡ fine → limit ≤ n → count ≡ length (axis_sizes es total)
@@ -87,13 +106,13 @@ fits-table es total limit n count some e l c =
 -- ---- all of them
 
 module _ (width height ctu : ℕ) (ws hs : List ℕ) where
-  refused_as : (n : ℕ) → first_bad (grid_checks width height ctu ws hs) ≡ refused_with n → refused_sizes n ≡ grid_sizes width height ctu ws hs
-  unfolding grid_sizes sizes_for
-  refused_as n e = rw e
+  refused_as : (e : Refusal) → first_bad (grid_checks width height ctu ws hs) ≡ refused_with (number e) → with_number (Err e) ≡ grid_sizes width height ctu ws hs
+  unfolding grid_sizes sizes_for with_number
+  refused_as e q = rw q
 
-  pub refused_9 : 2 < ctu → refused_sizes 9 ≡ grid_sizes width height ctu ws hs
-  unfolding grid_checks
-  refused_9 l = refused_as 9 (number-refused _ 9 (fails 9 _ _ (lt-ltb 2 ctu l)) (λ z. omega arith))
+  pub refused_9 : 2 < ctu → with_number (Err CtuSize) ≡ grid_sizes width height ctu ws hs
+  unfolding grid_checks number
+  refused_9 l = refused_as CtuSize (number-refused _ 9 (fails 9 _ _ (lt-ltb 2 ctu l)) (λ z. omega arith))
 
 module _ (width height ctu : ℕ) (ws hs : List ℕ) (w h : ℕ) (fw : w ≡ in_ctbs width (min ctu 5)) (fh : h ≡ in_ctbs height (min ctu 5)) (small : ctu ≤ 2) where
   ctu-kept : min ctu 5 ≡ ctu
@@ -121,8 +140,11 @@ module _ (width height ctu : ℕ) (ws hs : List ℕ) (w h : ℕ) (fw : w ≡ in_
   unfolding grid_checks first_bad
   after-ctu = rw (ew, eh, le-ltb 2 ctu small)
 
-  pub refused-explicit : (n : ℕ) → n ≡ number_of (first_bad explicits) → (n ≡ 0 → ⊥) → refused_sizes n ≡ grid_sizes width height ctu ws hs
-  refused-explicit n e k = refused_as width height ctu ws hs n (after-ctu ∙ first-left explicits (column_checks ++ row_checks) n (number-refused (first_bad explicits) n e k))
+  above : (e : Refusal) → number e ≡ 0 → ⊥
+  above e z = omega (arith, number_above0 e)
+
+  pub refused-explicit : (e : Refusal) → number e ≡ number_of (first_bad explicits) → with_number (Err e) ≡ grid_sizes width height ctu ws hs
+  refused-explicit e q = refused_as width height ctu ws hs e (after-ctu ∙ first-left explicits (column_checks ++ row_checks) (number e) (number-refused (first_bad explicits) (number e) q (above e)))
 
   module _ (ok : 0 ≡ number_of (first_bad explicits)) where
     explicit-fine : first_bad explicits ≡ fine
@@ -137,10 +159,10 @@ module _ (width height ctu : ℕ) (ws hs : List ℕ) (w h : ℕ) (fw : w ≡ in_
     unfolding explicit_checks AllPass
     some-rows = eqb-false (length hs) 0 (passes explicits explicit-fine).1.0
 
-    pub refused-columns : (n : ℕ) → n ≡ number_of (first_bad column_checks) → (n ≡ 0 → ⊥) → refused_sizes n ≡ grid_sizes width height ctu ws hs
-    refused-columns n e k =
-        refused_as width height ctu ws hs n
-        (after-ctu ∙ first-right explicits (column_checks ++ row_checks) explicit-fine ∙ first-left column_checks row_checks n (number-refused (first_bad column_checks) n e k))
+    pub refused-columns : (e : Refusal) → number e ≡ number_of (first_bad column_checks) → with_number (Err e) ≡ grid_sizes width height ctu ws hs
+    refused-columns e q =
+        refused_as width height ctu ws hs e
+        (after-ctu ∙ first-right explicits (column_checks ++ row_checks) explicit-fine ∙ first-left column_checks row_checks (number e) (number-refused (first_bad column_checks) (number e) q (above e)))
 
     module _ (columns : ℕ) (hc : 0 ≡ number_of (first_bad column_checks)) (nc : columns ≡ length (axis_sizes ws w)) where
       columns-fine : first_bad column_checks ≡ fine
@@ -150,8 +172,8 @@ module _ (width height ctu : ℕ) (ws hs : List ℕ) (w h : ℕ) (fw : w ≡ in_
       to-rows : first_bad (grid_checks width height ctu ws hs) ≡ first_bad row_checks
       to-rows = after-ctu ∙ first-right explicits (column_checks ++ row_checks) explicit-fine ∙ first-right column_checks row_checks columns-fine
 
-      pub refused-rows : (n : ℕ) → n ≡ number_of (first_bad (axis_checks hs h (max_tiles / columns))) → (n ≡ 0 → ⊥) → refused_sizes n ≡ grid_sizes width height ctu ws hs
-      refused-rows n e k = refused_as width height ctu ws hs n (to-rows ∙ number-refused (first_bad row_checks) n (e ∙ rw nc) k)
+      pub refused-rows : (e : Refusal) → number e ≡ number_of (first_bad (axis_checks hs h (max_tiles / columns))) → with_number (Err e) ≡ grid_sizes width height ctu ws hs
+      refused-rows e q = refused_as width height ctu ws hs e (to-rows ∙ number-refused (first_bad row_checks) (number e) (q ∙ rw nc) (above e))
 
       pub some-column : 0 < columns
       some-column = omega (arith, some_size ws w some-columns)
@@ -167,6 +189,6 @@ module _ (width height ctu : ℕ) (ws hs : List ℕ) (w h : ℕ) (fw : w ≡ in_
         pub rows_fit : FitsTable hs h rows max_tiles
         rows_fit = fits-table hs h row_limit max_tiles rows some-rows rows-fine (div-le_self max_tiles (length (axis_sizes ws w))) nr
 
-        pub accepted : (r : SizesAnswer) → r ≡ grid_of_sizes (axis_sizes ws w) (axis_sizes hs h) → r ≡ grid_sizes width height ctu ws hs
-        unfolding grid_sizes sizes_for tile_grid
-        accepted r q = let e : first_bad (grid_checks width height ctu ws hs) ≡ fine = to-rows ∙ rows-fine in q ∙ rw (e, ew, eh)
+        pub accepted : (s : GridSizes) → s ≡ grid_of_sizes (axis_sizes ws w) (axis_sizes hs h) → with_number (Ok s) ≡ grid_sizes width height ctu ws hs
+        unfolding grid_sizes sizes_for tile_grid with_number
+        accepted s q = let e : first_bad (grid_checks width height ctu ws hs) ≡ fine = to-rows ∙ rows-fine in rw (e, q, ew, eh)

@@ -1,11 +1,15 @@
 -- Laws on the answers, for callers.
-use Rattle.std.specs.Prelude.{◌≡◌, List, [], ◌∷◌, ◌++◌, ℕ, zero, suc, ◌-◌, length, get_or}
+use Rattle.std.specs.Prelude.{◌≡◌, List, [], ◌∷◌, ◌++◌, ℕ, zero, suc, ◌-◌, length, get_or, Result, Ok, Err}
+use native.Mathlib.Omega.{arith}
+use Rattle.refusal.specs.declared.Refusal.{Refusal}
+use Rattle.refusal.specs.Numbers.{refused}
+use Rattle.grid_sizes.specs.declared.GridSizes.{GridSizes}
 use Rattle.std.proofs.Math.Path.{refl}
 use Rattle.std.proofs.Common.{sym, ◌∙◌, lit<}
 use Rattle.partition.specs.Checks.{Outcome, fine, refused_with, first_bad, number_of, Numbered, zero-fine}
 use Rattle.partition.specs.Partition.{tile_grid, explicit_checks, axis_checks, grid_checks}
 use Rattle.tile_sizes.specs.Padded.{zeros, table_of}
-use Rattle.grid_sizes.specs.Answers.{grid_of_sizes, refused_sizes, sizes_for, grid_sizes}
+use Rattle.grid_sizes.specs.Answers.{grid_of_sizes, with_number, sizes_for, grid_sizes}
 
 -- ---- tables
 
@@ -28,23 +32,30 @@ table_at n ss i = go ss i
 -- ---- the grid
 
 module _ (width height ctu : ℕ) (ws hs : List ℕ) where
-  -- the number is that of the first check that fails, 0 where none does
-  pub grid-number : (grid_sizes width height ctu ws hs).refused ≡ number_of (first_bad (grid_checks width height ctu ws hs))
-  unfolding grid_sizes sizes_for grid_of_sizes refused_sizes number_of
-  grid-number = go (first_bad (grid_checks width height ctu ws hs))
-    where
-      go : (o : Outcome) → (sizes_for o (tile_grid width height ctu ws hs)).refused ≡ number_of o
-      go fine = refl
-      go (refused_with n) = refl
-
-  pub grid-fine : (grid_sizes width height ctu ws hs).refused ≡ 0 → first_bad (grid_checks width height ctu ws hs) ≡ fine
+  numbered : Numbered (grid_checks width height ctu ws hs)
   unfolding grid_checks explicit_checks axis_checks Numbered
-  grid-fine e =
-      zero-fine (grid_checks width height ctu ws hs)
-      (lit< tt, (lit< tt, (lit< tt, (lit< tt, (lit< tt, (lit< tt, (lit< tt, (lit< tt, (lit< tt, tt)))))))))
-      (sym e ∙ grid-number)
+  numbered = (lit< tt, (lit< tt, (lit< tt, (lit< tt, (lit< tt, (lit< tt, (lit< tt, (lit< tt, (lit< tt, tt)))))))))
+
+  module _ (r : Result GridSizes Refusal) (e : with_number r ≡ grid_sizes width height ctu ws hs) where
+    -- the number is that of the first check that fails, 0 where none does
+    pub grid-number : refused r ≡ number_of (first_bad (grid_checks width height ctu ws hs))
+    unfolding grid_sizes sizes_for with_number refused number_of
+    grid-number = split r (first_bad (grid_checks width height ctu ws hs)) e
+      where
+        split : (r : Result GridSizes Refusal) (o : Outcome) → with_number r ≡ sizes_for o (tile_grid width height ctu ws hs) → refused r ≡ number_of o
+        split (Ok s) fine q = refl
+        split (Ok s) (refused_with n) q = absurd (let z : ◌≡◌ {A = ℕ} 0 1 = cc in omega arith)
+        split (Err f) fine q = absurd (let z : ◌≡◌ {A = ℕ} 0 1 = cc in omega arith)
+        split (Err f) (refused_with n) q = cc
+
+    pub grid-fine : refused r ≡ 0 → first_bad (grid_checks width height ctu ws hs) ≡ fine
+    grid-fine z = zero-fine (grid_checks width height ctu ws hs) numbered (sym z ∙ grid-number)
 
   -- accepted, it is the tile grid
-  pub grid-sizes : (grid_sizes width height ctu ws hs).refused ≡ 0 → grid_sizes width height ctu ws hs ≡ grid_of_sizes (tile_grid width height ctu ws hs).column_widths (tile_grid width height ctu ws hs).row_heights
-  unfolding grid_sizes sizes_for
-  grid-sizes e = rw (grid-fine e)
+  pub grid-sizes : (s : GridSizes) → with_number (Ok s) ≡ grid_sizes width height ctu ws hs → s ≡ grid_of_sizes (tile_grid width height ctu ws hs).column_widths (tile_grid width height ctu ws hs).row_heights
+  unfolding grid_sizes sizes_for with_number
+  grid-sizes s e = split (first_bad (grid_checks width height ctu ws hs)) e
+    where
+      split : (o : Outcome) → with_number (Ok s) ≡ sizes_for o (tile_grid width height ctu ws hs) → s ≡ grid_of_sizes (tile_grid width height ctu ws hs).column_widths (tile_grid width height ctu ws hs).row_heights
+      split fine q = cc
+      split (refused_with n) q = absurd (let z : ◌≡◌ {A = ℕ} 0 1 = cc in omega arith)

@@ -4,8 +4,9 @@
 ghost use Rattle.std.specs.Prelude.{◌≡◌, take};
 ghost use Rattle.partition.specs.Grid.{max_tile_columns, max_tiles};
 ghost use Rattle.partition.specs.Sizes.{axis_sizes};
-ghost use Rattle.grid_sizes.specs.Answers.{FitsTable, grid_of_sizes, refused_sizes, grid_sizes};
+ghost use Rattle.grid_sizes.specs.Answers.{FitsTable, grid_of_sizes, with_number, grid_sizes};
 
+use refusal::Refusal;
 use sizes::{axis_answer, explicit_refusal, sizes_into};
 use slice_loop::CtbCount;
 use tables::places::at_most;
@@ -22,30 +23,6 @@ pub struct GridSizes {
     pub row_heights: [u32; MAX_TILES as usize],
 }
 
-// A refusal, or 0 and the sizes, which stand first: a copy of 4 KB by 4 bytes off a multiple of 4,096 takes 1.1 µs, and
-// 0.05 else.
-#[derive(Clone, Copy)]
-pub struct SizesAnswer {
-    pub sizes: GridSizes,
-    pub refused: u8,
-}
-
-// A refusal with its number; with 0, the sizes of no columns and no rows.
-pub fn refused_sizes(number: u8) -> SizesAnswer
-    ensures { result ≡ refused_sizes number }
-{
-    let sizes = GridSizes {
-        num_tile_columns: 0,
-        num_tile_rows: 0,
-        column_widths: [0; MAX_TILE_COLUMNS as usize],
-        row_heights: [0; MAX_TILES as usize],
-    };
-    SizesAnswer {
-        refused: number,
-        sizes,
-    }
-}
-
 // The tables of a grid that fits, of so many columns and rows.
 fn accepted_sizes(
     column_widths_minus1: &[u32],
@@ -54,7 +31,7 @@ fn accepted_sizes(
     row_heights_minus1: &[u32],
     height: CtbCount,
     rows: u32,
-) -> SizesAnswer
+) -> GridSizes
     requires { FitsTable column_widths_minus1.now width.0 columns max_tile_columns × FitsTable row_heights_minus1.now height.0 rows max_tiles }
     ensures { result ≡ grid_of_sizes (axis_sizes column_widths_minus1.now width.0) (axis_sizes row_heights_minus1.now height.0) }
 {
@@ -62,13 +39,12 @@ fn accepted_sizes(
     sizes_into(column_widths_minus1, width, &mut column_widths);
     let mut row_heights = [0u32; MAX_TILES as usize];
     sizes_into(row_heights_minus1, height, &mut row_heights);
-    let sizes = GridSizes {
+    GridSizes {
         num_tile_columns: columns,
         num_tile_rows: rows,
         column_widths,
         row_heights,
-    };
-    SizesAnswer { refused: 0, sizes }
+    }
 }
 
 // The sizes of the tile grid of a picture of so many luma samples, from its explicit tile sizes (minus 1); or 9, 10,
@@ -79,34 +55,25 @@ pub fn grid_sizes(
     log2_ctu_size_minus5: u8,
     column_widths_minus1: &[u32],
     row_heights_minus1: &[u32],
-) -> SizesAnswer
-    ensures { result ≡ grid_sizes pic_width_in_luma_samples pic_height_in_luma_samples log2_ctu_size_minus5 column_widths_minus1.now row_heights_minus1.now }
+) -> Result<GridSizes, Refusal>
+    ensures { with_number result ≡ grid_sizes pic_width_in_luma_samples pic_height_in_luma_samples log2_ctu_size_minus5 column_widths_minus1.now row_heights_minus1.now }
 {
     if log2_ctu_size_minus5 > 2 {
-        return refused_sizes(9);
+        return Err(Refusal::CtuSize);
     }
     let width = in_ctbs(pic_width_in_luma_samples, log2_ctu_size_minus5);
     let height = in_ctbs(pic_height_in_luma_samples, log2_ctu_size_minus5);
-    let e = explicit_refusal(width, height, column_widths_minus1, row_heights_minus1);
-    if e != 0 {
-        return refused_sizes(e);
-    }
-    let columns = axis_answer(column_widths_minus1, width, MAX_TILE_COLUMNS);
-    if columns.refused != 0 {
-        return refused_sizes(columns.refused);
-    }
-    let rows = axis_answer(row_heights_minus1, height, MAX_TILES / columns.count);
-    if rows.refused != 0 {
-        return refused_sizes(rows.refused);
-    }
-    accepted_sizes(
+    explicit_refusal(width, height, column_widths_minus1, row_heights_minus1)?;
+    let columns = axis_answer(column_widths_minus1, width, MAX_TILE_COLUMNS)?;
+    let rows = axis_answer(row_heights_minus1, height, MAX_TILES / columns)?;
+    Ok(accepted_sizes(
         column_widths_minus1,
         width,
-        columns.count,
+        columns,
         row_heights_minus1,
         height,
-        rows.count,
-    )
+        rows,
+    ))
 }
 
 // The same from the first `columns` and `rows` sizes of two tables.
@@ -118,8 +85,8 @@ pub fn sizes_in_tables(
     columns: u32,
     tile_row_heights: &[u32],
     rows: u32,
-) -> SizesAnswer
-    ensures { result ≡ grid_sizes pic_width_in_luma_samples pic_height_in_luma_samples log2_ctu_size_minus5
+) -> Result<GridSizes, Refusal>
+    ensures { with_number result ≡ grid_sizes pic_width_in_luma_samples pic_height_in_luma_samples log2_ctu_size_minus5
         (take columns tile_column_widths.now) (take rows tile_row_heights.now) }
 {
     let a = at_most(columns, tile_column_widths.len());

@@ -4,7 +4,7 @@ ghost use Rattle.partition.specs.Grid.{Grid};
 ghost use Rattle.pps_slices.specs.Entries.{EntryRead};
 ghost use Rattle.slice_loop.specs.Loop.{LoopOver, position};
 
-use super::parts::{flag_of, read_height, read_move, read_split, read_width, slice_after};
+use super::parts::{flag_of, read_height, read_move, read_split, read_width};
 use bit_reader::Cursor;
 use slice_loop::{SliceIdx, SliceLoopCtx, TileIdx};
 
@@ -49,7 +49,7 @@ pub fn read_rect_slice(
     let heights = read_split(s, split, row, ctx, slice, split_heights, from, height.next);
     let last = heights.last;
     let to_next = read_move(s, ctx, tile, last, width.value, height.value, heights.next);
-    let slice = slice_after(ctx.num_slices_minus1, last);
+    let slice = ctx.slice_after(last);
     let tile = to_next.tile;
     let next = to_next.next;
     RectSliceRead {

@@ -1,6 +1,6 @@
 // The parts of an entry of the slice loop (H.266 7.3.2.5): width, height, explicit slice heights, the way to the next
 // tile.
-ghost use Rattle.std.specs.Prelude.{◌≡◌, true, cond, suc, ◌+◌, ◌-◌, ◌*◌, ◌≤◌, min, eqb, ltb, leb};
+ghost use Rattle.std.specs.Prelude.{◌≡◌, true, cond, ◌+◌, ◌-◌, ◌*◌, ◌≤◌, min, eqb, ltb, leb};
 ghost use Rattle.std.proofs.lemmas.List.Edits.{sets};
 ghost use Rattle.bit_reader.specs.Reading.{ue_read, bits_or};
 ghost use Rattle.syntax.specs.Elements.{one_if};
@@ -111,17 +111,6 @@ pub fn last_slice(n: SliceIdx, slice: SliceIdx, count: u32) -> SliceIdx
     SliceIdx((past - 1) as u32)
 }
 
-// The slice index behind the last slice, at most n.
-pub fn slice_after(n: SliceIdx, last: SliceIdx) -> SliceIdx
-    ensures { result.0 ≡ min (suc last.0) n.0 }
-{
-    if last.0 < n.0 {
-        SliceIdx(last.0 + 1)
-    } else {
-        SliceIdx(n.0)
-    }
-}
-
 // How many explicit heights a tile has, and the index of its last slice.
 #[derive(Clone, Copy)]
 pub struct SplitRead {
@@ -176,13 +165,6 @@ pub struct MoveRead {
     pub next: Cursor,
 }
 
-pub fn inside(ctx: SliceLoopCtx, tile: TileIdx) -> bool
-    ensures { result ≡ ltb tile.0 (ctx.num_tile_rows * ctx.num_tile_columns) }
-{
-    let tiles = ctx.num_tiles();
-    (tile.0 as u64) < tiles
-}
-
 // The way to the next slice's tile: pps_tile_idx_delta_val, or the default advance.
 pub fn read_move(
     s: &[u8],
@@ -201,16 +183,16 @@ pub fn read_move(
     if ctx.delta_present {
         let delta = se_or(s, more, 0, c);
         let by_delta = ctx.apply_delta(tile, delta.value);
-        let next = demand(!more | (by_delta.refused == 0), 18, delta.next);
+        let next = demand(!more | by_delta.is_ok(), 18, delta.next);
         return MoveRead {
             coded: more,
             delta: delta.value,
-            tile: TileIdx(by_delta.tile_idx.0),
+            tile: by_delta.unwrap_or(TileIdx(0)),
             next,
         };
     }
     let by_default = ctx.default_advance(tile, width, height);
-    let within = inside(ctx, by_default);
+    let within = ctx.has_tile(by_default);
     let next = demand(!more | within, 19, c);
     MoveRead {
         coded: false,

@@ -1,1 +1,3 @@
 pub mod DeltaBits
+pub mod Rows
+pub mod Places

@@ -1,3 +1,4 @@
+pub mod Lent
 pub mod Mutable
 pub mod Parameters
 pub mod Rows

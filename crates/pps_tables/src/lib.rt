@@ -8,9 +8,16 @@ ghost use Rattle.pps_syntax.specs.FromRecord.{lengths_fit};
 ghost use Rattle.pps_tables.specs.Rows.{entry_of, no_entry};
 
 use pps_record::lengths;
+use tables::clear;
+use tables::places::put;
+
+mod lent;
+
+pub use lent::{LentTables, SliceTables};
 
 // The test of 5, by the lengths of the lent tables in the order in which they are lent: a table may be longer than
 // stated.
+#[tactic(auto, unfolding(pps_syntax::specs::FromRecord::lengths_fit))]
 pub fn tables_long(
     subpic_ids: usize,
     tile_column_widths: usize,
@@ -20,32 +27,25 @@ pub fn tables_long(
 ) -> bool
     ensures { result ≡ lengths_fit subpic_ids tile_column_widths tile_row_heights entries split_heights }
 {
-    (subpic_ids >= lengths::SUBPIC_IDS)
-        & ((tile_column_widths >= lengths::TILE_COLUMN_WIDTHS)
-            & ((tile_row_heights >= lengths::TILE_ROW_HEIGHTS)
-                & ((entries >= lengths::RECT_SLICES) & (split_heights >= lengths::SPLIT_HEIGHTS))))
+    subpic_ids >= lengths::SUBPIC_IDS
+        && tile_column_widths >= lengths::TILE_COLUMN_WIDTHS
+        && tile_row_heights >= lengths::TILE_ROW_HEIGHTS
+        && entries >= lengths::RECT_SLICES
+        && split_heights >= lengths::SPLIT_HEIGHTS
 }
 
 // The 32 bits of a delta, for its row.
 pub fn bits_of_delta(delta: i32) -> u32
     ensures { result ≡ bits_of_delta delta }
 {
-    if delta < 0 {
-        let below = -1 - delta;
-        return 4294967295 - below as u32;
-    }
-    delta as u32
+    delta.cast_unsigned()
 }
 
 // The delta of 32 bits of a row.
 pub fn delta_of_bits(bits: u32) -> i32
     ensures { result ≡ delta_of_bits bits }
 {
-    if bits < 2147483648 {
-        return bits as i32;
-    }
-    let below = 4294967295 - bits;
-    -1 - below as i32
+    bits.cast_signed()
 }
 
 // The places of a row, and how many there are.
@@ -67,14 +67,10 @@ pub const ENTRY_LEN: usize = 6;
 pub fn put_row(entries: &mut [[u32; ENTRY_LEN]], i: u32, row: [u32; ENTRY_LEN])
     ensures { entries.new ≡ set entries.old i row }
 {
-    let k = i as usize;
-    if entries.len() <= k {
-        return;
-    }
-    entries[k] = row;
+    put(entries, i as usize, row);
 }
 
-// A slice entry by its parts.
+// A slice entry by its parts, not as Options: the walk goes by a delta also where its flag is 0.
 #[derive(Clone, Copy)]
 pub struct RectSliceEntry {
     pub width: u32,
@@ -89,25 +85,14 @@ pub struct RectSliceEntry {
 pub fn entry_at(entries: &[[u32; ENTRY_LEN]], i: u32) -> RectSliceEntry
     ensures { result ≡ entry_of (get_or entries.now i []) }
 {
-    let k = i as usize;
-    if k < entries.len() {
-        let row = entries[k];
-        return RectSliceEntry {
-            width: row[WIDTH],
-            height: row[HEIGHT],
-            split_present: row[SPLIT_PRESENT],
-            split_count: row[SPLIT_COUNT],
-            delta_present: row[DELTA_PRESENT],
-            delta: delta_of_bits(row[DELTA_BITS]),
-        };
-    }
+    let row = entries.get(i as usize).copied().unwrap_or([0; ENTRY_LEN]);
     RectSliceEntry {
-        width: 0,
-        height: 0,
-        split_present: 0,
-        split_count: 0,
-        delta_present: 0,
-        delta: 0,
+        width: row[WIDTH],
+        height: row[HEIGHT],
+        split_present: row[SPLIT_PRESENT],
+        split_count: row[SPLIT_COUNT],
+        delta_present: row[DELTA_PRESENT],
+        delta: delta_of_bits(row[DELTA_BITS]),
     }
 }
 
@@ -115,9 +100,5 @@ pub fn entry_at(entries: &[[u32; ENTRY_LEN]], i: u32) -> RectSliceEntry
 pub fn clear_rows(entries: &mut [[u32; ENTRY_LEN]])
     ensures { entries.new ≡ blank (length entries.old) no_entry }
 {
-    let mut i = 0;
-    while i < entries.len() {
-        entries[i] = [0; ENTRY_LEN];
-        i += 1;
-    }
+    clear(entries, [0; ENTRY_LEN]);
 }

@@ -14,6 +14,7 @@ use Rattle.pps_tables.specs.declared.RectSliceEntry.{RectSliceEntry}
 use Rattle.slice_loop.specs.declared.TileIdx.{TileIdx}
 use Rattle.slice_loop.specs.declared.SliceIdx.{SliceIdx}
 use Rattle.slice_loop.specs.Loop.{position}
+use Rattle.std.specs.Result.{result_unwrap_or}
 use Rattle.tile_sizes.specs.Answers.{slices_in_tile}
 use Rattle.question_tests.specs.Tables.{entry_with}
 use Rattle.question_tests.specs.Steps.{moved_to, Stepped}
@@ -52,7 +53,7 @@ zero_number [] ds a = refl
 zero_number (c ∷ cs) ds a = rw a.0 (zero_number cs ds a.1)
 
 module _ (C R row : ℕ) (d : Bool) (N i t p : ℕ) (e : RectSliceEntry) (hs : List ℕ) (small : R * C ≤ 4294967295) (few : N ≤ max_slices_minus1) (split : Bool) (n : ℕ) (sp : split ≡ split_coded e.width e.height row)
-    (ns : n ≡ cond split (slices_in_tile hs row).num_slices 1) (b : SliceIdx) (bs : b.0 ≡ min 4294967295 (i + n)) where
+    (ns : n ≡ cond split (result_unwrap_or (slices_in_tile hs row) 0) 1) (b : SliceIdx) (bs : b.0 ≡ min 4294967295 (i + n)) where
   abbrev entry : Entry
   entry = entry_with e hs
 

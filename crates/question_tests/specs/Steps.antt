@@ -1,5 +1,6 @@
 -- The slice loop over the tables: where it stands, what a step gives, and what is left.
 use Rattle.std.specs.Prelude.{ℕ, ◌≤◌, ◌≡◌, Bool, cond}
+use Rattle.std.specs.Result.{result_unwrap_or}
 use Rattle.partition.specs.Checks.{first_bad, number_of}
 use Rattle.partition.specs.Entry.{Entry, Position, asking, default_advance, entry_checks, next_position}
 use Rattle.partition.specs.Grid.{Grid, grid_with}
@@ -15,7 +16,7 @@ grid_before columns rows = grid_with columns.entry.now rows.entry.now
 
 -- The next slice's tile, as far as it is one.
 unfoldable pub moved_to : ℕ → ℕ → Bool → ℕ → RectSliceEntry → TileIdx
-moved_to columns tiles deltas t e = cond deltas (next_by_delta tiles t e.delta).tile_idx (tile_idx_of (default_advance columns t e.width e.height))
+moved_to columns tiles deltas t e = cond deltas (result_unwrap_or (next_by_delta tiles t e.delta) (record { 0 = 0 })) (tile_idx_of (default_advance columns t e.width e.height))
 
 -- A step over an entry: its refusal, or where the next one stands; the tile counts while there are slices to come.
 pub record Stepped (columns rows row_height : ℕ) (deltas : Bool) (N : ℕ) (k : Position) (e : Entry) (r : EntryStep) : Type 0 where

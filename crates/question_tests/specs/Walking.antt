@@ -1,6 +1,9 @@
 -- The slice loop over the tables: what is left of the walk at each turn.
 use Prim.Native.Nat.{ℕ, suc, ◌+◌, ◌-◌, ◌≤◌, ◌<◌, min}
-use Rattle.std.specs.Prelude.{◌≡◌, refl, List, ◌∷◌, map, Bool, true, false, not, ◌&&◌, length, take, drop}
+use Rattle.std.specs.Prelude.{◌≡◌, refl, List, ◌∷◌, map, Bool, true, false, not, ◌&&◌, length, take, drop, Result}
+use Rattle.std.specs.Result.{result_unwrap_or}
+use Rattle.refusal.specs.declared.Refusal.{Refusal}
+use Rattle.slice_loop.specs.declared.TileIdx.{TileIdx}
 use Rattle.std.proofs.Math.Path.{ap}
 use Rattle.std.proofs.Common.{◌∙◌, leb-false}
 use Rattle.std.specs.Bool.{beq}
@@ -80,7 +83,8 @@ module _ {N : ℕ} {t : SliceTables} {at : Position} {j slice tile preceding fro
 -- where the way to it passed and slices are to come
 pub tile-after : (C T : ℕ) (d : Bool) (t : ℕ) (e : RectSliceEntry) (hs : List ℕ) → T ≤ 4294967295 → AllPass (move_checks C T d true t (entry_with e hs)) → (moved_to C T d t e).0 ≡ next_tile C d t (entry_with e hs)
 unfolding move_checks AllPass moved_to next_tile
-tile-after C T true t e hs small a = delta-tile T t e.delta small (present (is_set e.delta_present) a.0 (delta_refused T t e.delta) a.1.1.0)
+tile-after C T true t e hs small a =
+    ap (λ (r : Result TileIdx Refusal). (result_unwrap_or r (record { 0 = 0 })).0) (delta-tile T t e.delta small (present (is_set e.delta_present) a.0 (delta_refused T t e.delta) a.1.1.0))
   where
     present : (b : Bool) → not (beq b true) ≡ false → (r : Bool) → (b && r) ≡ false → r ≡ false
     present true p r q = q

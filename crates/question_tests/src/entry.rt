@@ -1,6 +1,7 @@
 // The tests of one entry of the slice loop, in the order of writing (H.266 7.3.2.5, 7.4.3.5), and where the next one
 // stands.
 ghost use Rattle.std.specs.Prelude.{◌≡◌, cond, ℕ, ◌+◌, ◌*◌, ◌≤◌, min, ltb, List};
+ghost use Rattle.std.specs.Result.{result_unwrap_or};
 ghost use Rattle.partition.specs.Checks.{first_bad, number_of};
 ghost use Rattle.partition.specs.Entry.{asking, split_coded, tile_row_height, size_checks, inherited_checks, split_checks, move_checks};
 ghost use Rattle.partition.specs.Grid.{max_slices_minus1};
@@ -46,11 +47,10 @@ fn inherited_refusal(
 
 // How many slices an entry gives; 0 where the explicit heights pass the row.
 fn slices_of(split: bool, heights: &[u32], row: CtbCount) -> u32
-    ensures { result ≡ cond split (slices_in_tile heights.now row.0).num_slices 1 }
+    ensures { result ≡ cond split (result_unwrap_or (slices_in_tile heights.now row.0) 0) 1 }
 {
     if split {
-        let counted = num_slices_in_tile(heights, row);
-        return counted.num_slices;
+        return num_slices_in_tile(heights, row).unwrap_or(0);
     }
     1
 }
@@ -58,8 +58,7 @@ fn slices_of(split: bool, heights: &[u32], row: CtbCount) -> u32
 fn past_row(heights: &[u32], row: CtbCount) -> bool
     ensures { result ≡ ltb row.0 (sum (explicit_sizes heights.now)) }
 {
-    let counted = num_slices_in_tile(heights, row);
-    counted.refused != 0
+    num_slices_in_tile(heights, row).is_err()
 }
 
 // The explicit slice heights (26, 16, 17), giving so many slices.
@@ -73,7 +72,7 @@ fn split_refusal(
     heights: &[u32],
 ) -> u8
     requires { (split ≡ split_coded e.width e.height row.0)
-        × (slices ≡ cond split (slices_in_tile heights.now row.0).num_slices 1) }
+        × (slices ≡ cond split (result_unwrap_or (slices_in_tile heights.now row.0) 0) 1) }
     ensures { let e = entry_with e heights.now in
         result ≡ number_of (first_bad (split_checks row.0 ctx.num_slices_minus1.0 slice.0 e)) }
 {
@@ -104,7 +103,7 @@ fn move_refusal(ctx: SliceLoopCtx, tile: TileIdx, more: bool, e: RectSliceEntry)
     let agrees = same(moves, ctx.delta_present & more);
     let leaves = by_default.0 as u64 >= tiles;
     let d = tested(19, !ctx.delta_present & (more & leaves), 0);
-    let c = tested(18, moves & (by_delta.refused != 0), d);
+    let c = tested(18, moves & by_delta.is_err(), d);
     let b = tested(25, moves & uncodable, c);
     tested(26, !agrees, b)
 }

@@ -11,8 +11,7 @@ pub fn next_tile(ctx: SliceLoopCtx, tile: TileIdx, e: RectSliceEntry) -> TileIdx
         result ≡ moved_to ctx.num_tile_columns tiles ctx.delta_present tile.0 e }
 {
     if ctx.delta_present {
-        let to = ctx.apply_delta(tile, e.delta);
-        return to.tile_idx;
+        return ctx.apply_delta(tile, e.delta).unwrap_or(TileIdx(0));
     }
     ctx.default_advance(tile, e.width, e.height)
 }

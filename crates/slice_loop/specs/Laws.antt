@@ -1,13 +1,14 @@
 -- Laws on the next tile, for callers.
-use Rattle.std.specs.Prelude.{◌≡◌, Bool, ℕ, ◌≤◌, min, leb, ℤ}
-use Rattle.std.proofs.Math.Path.{refl}
+use Rattle.std.specs.Prelude.{◌≡◌, Bool, ℕ, ◌≤◌, min, leb, ℤ, Ok, Err}
+use Rattle.std.proofs.Math.Path.{refl, ap}
 use Rattle.std.proofs.Math.Bool.{true, false, cond}
 use Rattle.std.proofs.Common.{arith, leb-true, leb-false, le-leb}
 use Rattle.std.proofs.lemmas.Bool.{lt-leb}
+use Rattle.refusal.specs.declared.Refusal.TheVariants.{TileIdxDelta}
+use Rattle.refusal.specs.Numbers.{number, refused}
 use Rattle.partition.specs.Entry.{tile_after_delta, delta_refused}
 use Rattle.partition.proofs.Placed.{delta-inside}
-use Rattle.slice_loop.specs.declared.NextTile.{NextTile}
-use Rattle.slice_loop.specs.Answers.{tile_idx_of, no_tile, next_by_delta}
+use Rattle.slice_loop.specs.Answers.{tile_idx_of, next_by_delta}
 
 pub held-tile : (t : ℕ) → t ≤ 4294967295 → (tile_idx_of t).0 ≡ t
 unfolding tile_idx_of
@@ -23,14 +24,16 @@ held_outside tiles t h = split (leb tiles t) refl
     split false e = lt-leb tiles (min 4294967295 t) (omega (arith, leb-false tiles t e))
 
 module _ (tiles t : ℕ) (d : ℤ) where
-  pub delta-number : (next_by_delta tiles t d).refused ≡ cond (delta_refused tiles t d) 18 0
-  unfolding next_by_delta no_tile
+  pub delta-number : refused (next_by_delta tiles t d) ≡ cond (delta_refused tiles t d) 18 0
+  unfolding next_by_delta refused number
   delta-number = go (delta_refused tiles t d)
     where
-      go : (b : Bool) → (cond {A = NextTile} b no_tile (record { refused = 0; tile_idx = tile_idx_of (tile_after_delta t d) })).refused ≡ cond b 18 0
+      go : (b : Bool) → refused (cond b (Err TileIdxDelta) (Ok (tile_idx_of (tile_after_delta t d)))) ≡ cond b 18 0
       go true = refl
       go false = refl
 
-  pub delta-tile : tiles ≤ 4294967295 → delta_refused tiles t d ≡ false → (next_by_delta tiles t d).tile_idx.0 ≡ tile_after_delta t d
+  pub delta-tile : tiles ≤ 4294967295 → delta_refused tiles t d ≡ false → next_by_delta tiles t d ≡ Ok (record { 0 = tile_after_delta t d })
   unfolding next_by_delta
-  delta-tile h e = rw e (held-tile (tile_after_delta t d) (omega (arith, delta-inside tiles t d e)))
+  delta-tile h e =
+      let k : (tile_idx_of (tile_after_delta t d)).0 ≡ tile_after_delta t d = held-tile (tile_after_delta t d) (omega (arith, delta-inside tiles t d e)) in
+      rw e (ap (λ (n : ℕ). Ok (record { 0 = n })) k)

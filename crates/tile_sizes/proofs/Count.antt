@@ -11,14 +11,14 @@ use lib.ListN.{length, get_or, take, drop, drop_of_length-le}
 use lib.Seq.{take-suc, take_all, drop-cons}
 use borrow.Author.Tests.{le-leb, lt-leb, leb-true, leb-false, le-ltb, lt-ltb}
 use Rattle.partition.specs.Entry.{split_heights, num_slices_in_tile}
+use Rattle.std.specs.Prelude.{Option, Some, None, Ok, Err, ok_or}
+use Rattle.refusal.specs.declared.Refusal.TheVariants.{SplitHeights}
 use Rattle.tile_sizes.specs.Answers.{slices_in_tile}
 use Rattle.partition.specs.Sizes.{sum, explicit_sizes, uniform_size, axis_sizes, uniform_pos}
 use Rattle.partition.proofs.Sizes.{length-sizes}
 
--- ---- pieces
-
 -- pieces of at least 1 are no more than the length
-pub pieces_le : (n u : ℕ) → 1 ≤ u → n / u + n % u ≤ n
+pub pieces_le : (n u : ℕ) → 1 ≤ u → n / u + min 1 (n % u) ≤ n
 pieces_le n u h =
     let m : n / u * 1 ≤ n / u * u = mul-le-mul_left (n / u) h in
     omega (arith, m, mul-one (n / u), div-add-mod' n u)
@@ -56,18 +56,21 @@ goes_on es total remaining uniform i h l k =
       last = add-one (get_or es i 0) ∙ sym (uniform_last (take i es) (get_or es i 0)) ∙ rw (add-one i, take-suc es i 0 h);
     }
 
+abbrev pub counted-sizes : List ℕ → ℕ → Option ℕ
+counted-sizes es total = cond (leb (sum (explicit_sizes es)) total) (Some (length (axis_sizes es total))) None
+
 -- a size that is not below what remains: the explicit ones pass the axis
 pub passes-axis : (es : List ℕ) (total remaining uniform i : ℕ) → i < length es → remaining ≤ get_or es i 0 → Counting es total remaining uniform i
-    → false ≡ leb (sum (explicit_sizes es)) total
-passes-axis es total remaining uniform i h l k = sym (lt-leb (sum (explicit_sizes es)) total (omega (arith, next-explicit es i h)))
+    → None ≡ counted-sizes es total
+passes-axis es total remaining uniform i h l k = rw (lt-leb (sum (explicit_sizes es)) total (omega (arith, next-explicit es i h)))
 
 module _ (es : List ℕ) (total remaining uniform i : ℕ) (h : length es ≤ i) (k : Counting es total remaining uniform i) where
   nothing_left : sum (explicit_sizes (drop i es)) ≡ 0
   unfolding sum explicit_sizes
   nothing_left = rw (drop_of_length-le es h)
 
-  pub fits-axis : true ≡ leb (sum (explicit_sizes es)) total
-  fits-axis = sym (le-leb (sum (explicit_sizes es)) total (omega (arith, nothing_left)))
+  fits-axis : leb (sum (explicit_sizes es)) total ≡ true
+  fits-axis = le-leb (sum (explicit_sizes es)) total (omega (arith, nothing_left))
 
   last-is : uniform ≡ uniform_size es
   last-is = k.last ∙ ap uniform_size (take_all i es h)
@@ -75,31 +78,26 @@ module _ (es : List ℕ) (total remaining uniform i : ℕ) (h : length es ≤ i)
   pub uniform_some : 1 ≤ uniform
   uniform_some = omega (arith, last-is, uniform_pos es)
 
-  pub counted : (n : ℕ) → n ≡ remaining / uniform + min 1 (remaining % uniform) → i + n ≡ length (axis_sizes es total)
+  pub counted : (n : ℕ) → n ≡ remaining / uniform + min 1 (remaining % uniform) → Some (length es + n) ≡ counted-sizes es total
   counted n e =
       let r : total - sum (explicit_sizes es) ≡ remaining = omega (arith, nothing_left) in
       let a : length (axis_sizes es total) ≡ length es + remaining / uniform + min 1 (remaining % uniform) = length-sizes es total ∙ rw (r, ← last-is) in
-      omega arith
+      let c : length es + n ≡ length (axis_sizes es total) = omega arith in
+      rw (fits-axis, c)
 
 -- ---- the slices of a tile
 
-pub no-heights : (hs : List ℕ) (row : ℕ) → length hs ≡ 0 → record { refused = 0; num_slices = 1 } ≡ slices_in_tile hs row
+pub no-heights : (hs : List ℕ) (row : ℕ) → length hs ≡ 0 → Ok 1 ≡ slices_in_tile hs row
 unfolding slices_in_tile num_slices_in_tile split_heights sum explicit_sizes
 no-heights [] row e = rw (le-ltb row 0 (omega arith))
 no-heights (k ∷ ks) row e = absurd (omega arith)
 
-some-heights : (hs : List ℕ) (row : ℕ) → (length hs ≡ 0 → ⊥) → length (axis_sizes hs row) ≡ num_slices_in_tile hs row
-unfolding num_slices_in_tile split_heights
+pub some-heights : (hs : List ℕ) (row : ℕ) → (length hs ≡ 0 → ⊥) → ok_or (counted-sizes hs row) SplitHeights ≡ slices_in_tile hs row
+unfolding slices_in_tile num_slices_in_tile split_heights
 some-heights [] row e = absurd (e refl)
-some-heights (k ∷ ks) row e = refl
-
-module _ (hs : List ℕ) (row : ℕ) (f : Bool) (hf : f ≡ leb (sum (explicit_sizes hs)) row) where
-  pub heights-pass : f ≡ false → record { refused = 16; num_slices = 0 } ≡ slices_in_tile hs row
-  unfolding slices_in_tile
-  heights-pass q = rw (lt-ltb row (sum (explicit_sizes hs)) (leb-false (sum (explicit_sizes hs)) row (sym hf ∙ q)))
-
-  pub heights-fit : (n : ℕ) → (length hs ≡ 0 → ⊥) → n ≡ cond f (length (axis_sizes hs row)) 0 → f ≡ true → record { refused = 0; num_slices = n } ≡ slices_in_tile hs row
-  unfolding slices_in_tile
-  heights-fit n e hn q =
-      let l : ltb row (sum (explicit_sizes hs)) ≡ false = le-ltb row (sum (explicit_sizes hs)) (leb-true (sum (explicit_sizes hs)) row (sym hf ∙ q)) in
-      rw (l, hn, q, some-heights hs row e)
+some-heights (k ∷ ks) row e = cases (leb (sum (explicit_sizes (k ∷ ks))) row) refl
+  where
+    cases : (b : Bool) → leb (sum (explicit_sizes (k ∷ ks))) row ≡ b
+        → ok_or (cond b (Some (length (axis_sizes (k ∷ ks) row))) None) SplitHeights ≡ cond (ltb row (sum (explicit_sizes (k ∷ ks)))) (Err SplitHeights) (Ok (length (axis_sizes (k ∷ ks) row)))
+    cases true q = rw (le-ltb row (sum (explicit_sizes (k ∷ ks))) (leb-true (sum (explicit_sizes (k ∷ ks))) row q))
+    cases false q = rw (lt-ltb row (sum (explicit_sizes (k ∷ ks))) (leb-false (sum (explicit_sizes (k ∷ ks))) row q))

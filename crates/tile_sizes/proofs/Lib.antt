@@ -1,4 +1,4 @@
 pub mod Blocks
 pub mod Count
 pub mod Next
-pub mod Search
+pub mod Split

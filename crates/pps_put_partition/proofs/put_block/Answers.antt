@@ -1,19 +1,20 @@
-use mathlib.Core.Path.{◌∙◌}
-use Rattle.pps_put_partition.specs.Rest.{block-stops, block_goes}
+use mathlib.Core.Path.{refl, ◌∙◌}
+use native.Mathlib.Omega.{arith}
+use Rattle.refusal.proofs.Numbers.{number_above0}
+use Rattle.bit_writer.proofs.Ended.{at_err}
+use Rattle.bit_writer.proofs.Steps.{test_failed}
+use Rattle.pps_put_partition.specs.Rest.{tiles-refused, grid-refused, block_goes}
 use Rattle.pps_put_partition.proofs.put_block.Goals as goal
 
-pub put_tile_sizes-a-requires : goal.put_tile_sizes-a-requires
-put_tile_sizes-a-requires c = c.requires
+pub returns-in_err-put_tile_sizes : goal.returns-in_err-put_tile_sizes
+returns-in_err-put_tile_sizes c =
+    at_err _ _ _ _ c.from_residual.ensures.1
+    ∙ tiles-refused _ _ c.args.p.now _ _ _ _ c.in_err-put_tile_sizes.ensures (λ z. absurd (let h = number_above0 c.in_err-put_tile_sizes.field-0.0 in omega arith))
 
-pub shape_of-out-then-b-ne0 : goal.shape_of-out-then-b-ne0
-shape_of-out-then-b-ne0 c = c.put_tile_sizes-a.auto.out
-
-pub returns-then-b-ne0 : goal.returns-then-b-ne0
-returns-then-b-ne0 c = block-stops _ _ c.args.p _ _ _ _ c.put_tile_sizes-a.ensures c.grid_sizes-answer.ensures (c.demand-b.ensures _) c.if-b-ne0.true
-
-pub shape_of-out : goal.shape_of-out
-shape_of-out c = c.put_slicing.auto.out ∙ c.put_tile_sizes-a.auto.out
+pub returns-in_err-grid : goal.returns-in_err-grid
+returns-in_err-grid c =
+    at_err _ _ _ _ c.from_residual-in_err-grid.ensures.1
+    ∙ grid-refused _ _ c.args.p.now _ _ _ _ c.in_ok-put_tile_sizes.ensures c.in_err-grid.field-0.0 c.in_err-grid.ensures (test_failed _ _ _ refl refl)
 
 pub returns : goal.returns
-returns c = let p = c.args.p in
-    block_goes _ _ p _ _ _ _ c.put_tile_sizes-a.ensures c.grid_sizes-answer.ensures (c.demand-b.ensures _) c.if-b-ne0.false c.put_slicing.ensures
+returns c = block_goes _ _ c.args.p.now _ _ _ _ c.in_ok-put_tile_sizes.ensures c.in_ok-grid.grid c.in_ok-grid.ensures c.put_slicing.ensures

@@ -1,14 +1,13 @@
-use mathlib.Core.Path.{◌∙◌}
+use mathlib.Core.Path.{◌∙◌, ap}
 use mir.Facts.{to_z-of_z}
 use mir.Syntax.{w32}
 use mir.Val.{SFits}
-use Rattle.pps_tables.specs.Rows.{entry-made, entry-none}
 use borrow.Author.Rules.{rules}
+use Rattle.std.specs.Option.{unwrap_or}
+use Rattle.pps_tables.specs.Rows.{no_entry}
+use Rattle.pps_tables.proofs.Rows.{copied_or, row_parts}
 use Rattle.pps_tables.proofs.entry_at.Goals as goal
 
-pub returns-then-k-entries : goal.returns-then-k-entries
-returns-then-k-entries c = let fits : SFits w32 c.delta_of_bits.result = search rules in
-    entry-made _ _ (to_z-of_z fits ∙ c.delta_of_bits.ensures)
-
 pub returns : goal.returns
-returns c = entry-none c.args.entries.now c.args.i c.if-k-entries.false
+returns c = let fits : SFits w32 c.delta_of_bits.result = search rules in
+    row_parts c.args.entries.now c.args.i _ _ (c.unwrap_or-row.ensures ∙ (ap (λ o. unwrap_or o no_entry) c.copied.ensures ∙ copied_or _ _ _ c.get.result c.get.ensures.lookup.0 c.get.ensures.lookup.1)) (to_z-of_z fits ∙ c.delta_of_bits.ensures)

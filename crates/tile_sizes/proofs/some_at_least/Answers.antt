@@ -1,18 +1,22 @@
--- The invariant: what is to be found is to be found from i on.
-use borrow.Author.Rules.{rules}
-use mathlib.Core.Path.{refl, sym, ◌∙◌}
-use native.Mathlib.Omega.{arith}
-use Rattle.tile_sizes.proofs.Search.{found_at, not_at, none_after}
+use lib.Dec.{leb}
+use mathlib.Core.Path.{refl, ◌∙◌}
+use mathlib.Core.Bool.{◌||◌}
+use Rattle.std.specs.List.{list_any}
+use Rattle.std.proofs.Common.{rules, tests}
+use Rattle.std.proofs.lemmas.Iterator.{YieldsList-from_slice}
+use Rattle.std.proofs.lemmas.Iterator.Search.{any_from_yields_List}
+use Rattle.std.proofs.lemmas.List.Recursion.{same_from_clauses}
+use Prim.Native.Nat.{ℕ}
+use mathlib.Core.List.{List}
+use mathlib.Core.Path.{◌≡◌}
+use Rattle.partition.specs.Entry.{some_at_least}
 use Rattle.tile_sizes.proofs.some_at_least.Goals as goal
 
-pub loop-i-init : goal.loop-i-init
-loop-i-init c = (omega arith, refl)
-
-pub returns-then-sizes_minus1-i : goal.returns-then-sizes_minus1-i
-returns-then-sizes_minus1-i c = found_at _ _ _ c.loop-i-test.true c.if-sizes_minus1-i.true ∙ sym c.loop-i.invariant.1
-
-pub loop-i-preserved : goal.loop-i-preserved
-loop-i-preserved c = (search rules, c.loop-i.invariant.1 ∙ not_at _ _ _ c.loop-i-test.true c.if-sizes_minus1-i.false)
+as_std : (limit : ℕ) (xs : List ℕ) → list_any (leb limit) xs ≡ some_at_least limit xs
+unfolding some_at_least
+as_std limit xs = same_from_clauses (list_any (leb limit)) (some_at_least limit) (λ x b. leb limit x || b) refl (λ _ _. refl) (λ _ _. refl) xs
 
 pub returns : goal.returns
-returns c = sym (c.loop-i.invariant.1 ∙ none_after _ _ _ c.loop-i-test.false)
+returns c =
+    let xs = c.args.sizes_minus1.now in
+    any_from_yields_List (leb c.args.limit.0) _ _ _ c.any.ensures.ran (YieldsList-from_slice xs cc) (λ x b q k. search (rules, tests)) ∙ as_std c.args.limit.0 xs
