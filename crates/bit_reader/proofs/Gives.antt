@@ -10,7 +10,7 @@ use Rattle.refusal.proofs.Numbers.{number_above0}
 use Rattle.bit_reader.specs.declared.BitReader.{BitReader}
 use Rattle.bit_reader.specs.declared.Cursor.{Cursor}
 use Rattle.bit_reader.specs.Reading.{refusal, demanded, se_read}
-use Rattle.bit_reader.specs.Gives.{Parsed, parsed, cursor_of, Gives, u_parsed, ue_parsed, se_parsed, tested, held_as}
+use Rattle.bit_reader.specs.Gives.{Parsed, parsed, cursor_of, Gives, u_parsed, ue_parsed, se_parsed, tested, held_as, value_read}
 use Rattle.bit_reader.specs.Laws.{u-below, ue-small, demanded-true, demanded-false, demanded-refused}
 
 module _ {A : Type 0} {read : List ℕ → Cursor → Parsed A} {p q : BitReader} where
@@ -58,6 +58,14 @@ module _ {A B : Type 0} (f : A → B) {read : List ℕ → Cursor → Parsed A} 
   pub holds : {v : A} {w : B} → Gives read p q (Ok v) → w ≡ f v → Gives (held_as f read) p q (Ok w)
   unfolding refused
   holds g e = record { bytes = g.bytes; next = g.next; value = ap f g.value ∙ sym e }
+
+  pub held_back : {w : B} → Gives (held_as f read) p q (Ok w) → Gives read p q (Ok (value_read read p))
+  unfolding refused
+  held_back g = record { bytes = g.bytes; next = g.next; value = refl }
+
+  pub held-none_back : {e : Refusal} → Gives (held_as f read) p q (Err e) → Gives read p q (Err e)
+  unfolding refused
+  held-none_back g = record { bytes = g.bytes; next = g.next; value = tt }
 
   pub holds-none : {e : Refusal} → Gives read p q (Err e) → Gives (held_as f read) p q (Err e)
   unfolding refused

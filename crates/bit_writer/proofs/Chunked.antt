@@ -10,15 +10,9 @@ use Rattle.codes.specs.ExpGolomb.{floor_log2, log2_is}
 use Rattle.bit_writer.specs.Writing.{Writing, place, holding, put_byte, feed}
 use Rattle.bit_writer.specs.Chunks.{chunk_open, chunk_whole}
 
--- 2^m for m up to 8
-pub power : (m : ℕ) → m ≤ 8 → ((1 * 2 ^ m) % 2 ^ 64 ≡ 2 ^ m) × (0 < (1 * 2 ^ m) % 2 ^ 64) × ((1 * 2 ^ m) % 2 ^ 64 ≤ 256)
-power m h =
-    let e : (1 * 2 ^ m) % 2 ^ 64 ≡ 2 ^ m = shl_exact 1 m 64 (omega arith) (omega arith) ∙ one-mul (2 ^ m) in
-    (e, omega (arith, e, pow_pos m), omega (arith, e, pow_mono {i = m} {j = 8} h))
-
--- nothing overflows
-pub chunk_room : (cur p x : ℕ) → cur < 256 → 0 < p → p ≤ 256 → (cur * p ≤ 65536) × (x % p < 256)
-chunk_room cur p x h l g = (omega (arith, mul-le-mul_right p (le_of_lt h)), omega (arith, mod-lt x l))
+-- a shifted 1
+pub power : (m n : ℕ) → m < n → (1 * 2 ^ m) % 2 ^ n ≡ 2 ^ m
+power m n h = shl_exact 1 m n (omega arith) (omega arith) ∙ one-mul (2 ^ m)
 
 module _ (w : Writing) (m p x : ℕ) (e : p ≡ 2 ^ m) where
   pub made_open : 0 < m → place w.sink + m < 8 → holding w ((w.sink.cur * p + x % p) % 256) (place w.sink + m) ≡ feed w (to_bits m x)

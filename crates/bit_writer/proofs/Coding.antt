@@ -11,16 +11,20 @@ use lib.ListN.{replicate}
 use Rattle.codes.specs.Bits.{to_bits, to_bits-zero}
 use Rattle.codes.specs.ExpGolomb.{floor_log2, log2_between, log2_below, ue_code, ue-code-number, code_num, se_code}
 use Rattle.codes.specs.Symbols.{putting, check, checked}
-use Rattle.bit_writer.specs.Writing.{Writing, feed, feed-append, play, play-append, play-bits, trailing_bits, finished, closed}
+use Rattle.bit_writer.specs.Writing.{Writing, feed, feed-append, play, play-append, play-bits, trailing_bits, finished, closed, with_refusal}
 use Rattle.codes.specs.Coded.{flag_bit, se_symbols, only_if}
+use Rattle.bit_writer.specs.Stop.{play_on, on-bits, on_then}
+use Rattle.refusal.specs.declared.Refusal.{Refusal}
+use Rattle.refusal.specs.Numbers.{number}
+use Rattle.bit_writer.proofs.Ended.{feed_on, refused_before}
 use Rattle.bit_writer.proofs.Steps.{flag-low, only-on}
 
 module _ (w : Writing) where
-  pub flag-made : {t : Writing} (v b : ℕ) → t ≡ play w (putting (b % 2 ∷ [])) → b ≡ flag_bit v → t ≡ play w (putting (flag_bit v ∷ []))
-  flag-made v b p e = p ∙ ap (λ (k : ℕ). play w (putting (k ∷ []))) (ap (λ (k : ℕ). k % 2) e ∙ flag-low v)
+  pub flag-made : {t : Writing} (v b : ℕ) → t ≡ play_on w (putting (b % 2 ∷ [])) → b ≡ flag_bit v → t ≡ play_on w (putting (flag_bit v ∷ []))
+  flag-made v b p e = p ∙ ap (λ (k : ℕ). play_on w (putting (k ∷ []))) (ap (λ (k : ℕ). k % 2) e ∙ flag-low v)
 
-  pub bits-made : {t : Writing} (n m v : ℕ) → m ≡ min n 32 → t ≡ feed w (to_bits m v) → t ≡ play w (putting (to_bits (min n 32) v))
-  bits-made n m v e p = p ∙ ap (λ (k : ℕ). feed w (to_bits k v)) e ∙ sym (play-bits w (to_bits (min n 32) v))
+  pub bits-made : {t : Writing} (n m v : ℕ) → w.sink.refused ≡ 0 → m ≡ min n 32 → t ≡ feed w (to_bits m v) → t ≡ play_on w (putting (to_bits (min n 32) v))
+  bits-made n m v z e p = p ∙ ap (λ (k : ℕ). feed w (to_bits k v)) e ∙ feed_on w (to_bits (min n 32) v) z
 
   -- ---- ue(v)
   pub code-short : {t : Writing} (k z : ℕ) → z ≡ floor_log2 (k + 1) → t ≡ feed w (to_bits (2 * z + 1) (k + 1)) → t ≡ feed w (ue_code k)
@@ -39,29 +43,33 @@ module _ (w : Writing) where
       ∙ ap (λ (n : ℕ). feed w (replicate z 0 ++ to_bits n (k + 1))) (add-one z)
       ∙ ap (λ (n : ℕ). feed w (replicate n 0 ++ to_bits (suc n) (k + 1))) e
 
-  pub tested-made : {t u : Writing} (ok : Bool) (n : ℕ) (bs : List ℕ) → t ≡ play w (check ok n) → u ≡ feed t bs → u ≡ play w (checked ok n bs)
+  -- behind its test
+  pub tested-failed : (ok : Bool) (n : ℕ) (bs : List ℕ) (v : Writing) (e : Refusal) → with_refusal v (number e) ≡ play_on w (check ok n) → with_refusal v (number e) ≡ play_on w (checked ok n bs)
   unfolding checked
-  tested-made ok n bs p q =
-      q ∙ ap (λ (x : Writing). feed x bs) p ∙ sym (play-bits (play w (check ok n)) bs) ∙ sym (play-append w (check ok n) (putting bs))
+  tested-failed ok n bs v e p = refused_before w v e (check ok n) (putting bs) p
 
-  pub signed-made : {t : Writing} (v : ℤ) (k : ℕ) → k ≡ code_num v → t ≡ play w (checked (ltb k 4294967295) 25 (ue_code k)) → t ≡ play w (se_symbols v)
+  pub tested-made : {t : Writing} (ok : Bool) (n : ℕ) (bs : List ℕ) → w.sink.refused ≡ 0 → w ≡ play_on w (check ok n) → t ≡ feed w bs → t ≡ play_on w (checked ok n bs)
+  unfolding checked
+  tested-made ok n bs z p q = on_then w (check ok n) (putting bs) p (q ∙ feed_on w bs z)
+
+  pub signed-made : {t : Writing} (v : ℤ) (k : ℕ) → k ≡ code_num v → t ≡ play_on w (checked (ltb k 4294967295) 25 (ue_code k)) → t ≡ play_on w (se_symbols v)
   unfolding se_code
-  signed-made v k e p = p ∙ ap (λ (n : ℕ). play w (checked (ltb n 4294967295) 25 (ue_code n))) e
+  signed-made v k e p = p ∙ ap (λ (n : ℕ). play_on w (checked (ltb n 4294967295) 25 (ue_code n))) e
 
   pub signed-only : {t : Writing} (on : Bool) (u v : ℤ) → u ≡ v → t ≡ play w (se_symbols u) → on ≡ true → t ≡ play w (only_if on (se_symbols v))
   signed-only on u v e p o = p ∙ ap (λ (z : ℤ). play w (se_symbols z)) e ∙ only-on w on (se_symbols v) o
 
   -- ---- the end
-  pub trailing-made : {t u : Writing} (n : ℕ) → t ≡ play w (putting (1 % 2 ∷ [])) → u ≡ feed t (to_bits (7 - n % 8) 0) → u ≡ play w (putting (trailing_bits n))
+  pub trailing-made : {t u : Writing} (n : ℕ) → w.sink.refused ≡ 0 → t ≡ play_on w (putting (1 % 2 ∷ [])) → u ≡ feed t (to_bits (7 - n % 8) 0) → u ≡ play_on w (putting (trailing_bits n))
   unfolding trailing_bits feed
-  trailing-made n p q =
+  trailing-made n h p q =
       let z : List ℕ = replicate (7 - n % 8) 0 in
-      q ∙ ap (λ (x : Writing). feed x (to_bits (7 - n % 8) 0)) (p ∙ play-bits w (1 ∷ []))
-      ∙ ap (feed (feed w (1 ∷ []))) (to_bits-zero (7 - n % 8)) ∙ sym (play-bits w (1 ∷ z))
+      q ∙ ap (λ (x : Writing). feed x (to_bits (7 - n % 8) 0)) (p ∙ sym (feed_on w (1 ∷ []) h))
+      ∙ ap (feed (feed w (1 ∷ []))) (to_bits-zero (7 - n % 8)) ∙ feed_on w (1 ∷ z) h
 
-  pub closed-made : {t u : Writing} → t ≡ play w (putting (trailing_bits w.sink.have)) → u ≡ finished t → u ≡ closed w
+  pub closed-made : {t u : Writing} → w.sink.refused ≡ 0 → t ≡ play_on w (putting (trailing_bits w.sink.have)) → u ≡ finished t → u ≡ closed w
   unfolding closed
-  closed-made p q = q ∙ ap finished p
+  closed-made z p q = q ∙ ap finished (p ∙ on-bits w (trailing_bits w.sink.have) z)
 
 -- the code numbers that reach here have at most 33 bits
 pub code-width : (k : ℕ) → k ≤ 4294967296 → floor_log2 (k + 1) < 33

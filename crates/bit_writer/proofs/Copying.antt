@@ -34,14 +34,13 @@ module _ (s : List ℕ) (w : Writing) (i r left a b x : ℕ) (h : r < 8) (p : a 
   here : x ≡ bits_at s (i * 8 + r) 8
   here = e ∙ eight_made s i r a b h p q
 
-  pub copy_turn : {t : Writing} → 8 ≤ left → t ≡ feed w (to_bits 8 x) → feed t (bit_list s ((i + 1) * 8 + r) (left - 8)) ≡ feed w (bit_list s (i * 8 + r) left)
-  copy_turn {t} l d =
+  pub copy_turn : {t : Writing} (rest : ℕ) → left ≡ 8 + rest → t ≡ feed w (to_bits 8 x) → feed t (bit_list s ((i + 1) * 8 + r) rest) ≡ feed w (bit_list s (i * 8 + r) left)
+  copy_turn {t} rest l d =
       let at = i * 8 + r in
-      let k : 8 + (left - 8) ≡ left = omega arith in
       let on : (i + 1) * 8 + r ≡ at + 8 = omega arith in
-      ap₂ (λ (u : Writing) (n : ℕ). feed u (bit_list s n (left - 8))) (d ∙ ap (λ (n : ℕ). feed w (to_bits 8 n)) here ∙ ap (feed w) (sym (bit_list-to_bits s at 8))) on
-      ∙ sym (feed-append w (bit_list s at 8) (bit_list s (at + 8) (left - 8)))
-      ∙ ap (feed w) (sym (bit_list-append s 8 at (left - 8)) ∙ ap (bit_list s at) k)
+      ap₂ (λ (u : Writing) (n : ℕ). feed u (bit_list s n rest)) (d ∙ ap (λ (n : ℕ). feed w (to_bits 8 n)) here ∙ ap (feed w) (sym (bit_list-to_bits s at 8))) on
+      ∙ sym (feed-append w (bit_list s at 8) (bit_list s (at + 8) rest))
+      ∙ ap (feed w) (sym (bit_list-append s 8 at rest) ∙ ap (bit_list s at) (sym l))
 
   pub copy_ends : left < 8 → feed w (to_bits left (x / 2 ^ (8 - left))) ≡ feed w (bit_list s (i * 8 + r) left)
   copy_ends l =

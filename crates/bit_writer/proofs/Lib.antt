@@ -1,5 +1,7 @@
 pub mod Steps
 pub mod Chunked
+pub mod Ended
 pub mod Coding
 pub mod Copying
 pub mod Signed
+pub mod ByValue

@@ -10,16 +10,18 @@ use borrow.Author.Tests.{eqb-true, ne_eqb}
 use Rattle.codes.specs.Symbols.{Symbol, refuse, first, first-left, first-right, putting, check, check-true}
 use Rattle.nal.specs.Escape.{needs_escape, zero_run, escape_end}
 use Rattle.nal.specs.Laws.{escape_byte_plain, escape_byte-escaped, escape_run_plain, escape_run-escaped, escape_end-none, escape_end_three}
-use Rattle.bit_writer.specs.declared.Sink.{Sink}
-use Rattle.bit_writer.specs.Writing.{Writing, sink_over, place, joined, holding, behind_byte, put_raw, put_raws, coded, coded_run, put_byte, put_bit, finished, with_refusal, step, play}
+use Rattle.bit_writer.specs.declared.BitWriter.{BitWriter}
+use Rattle.bit_writer.specs.Stop.{play_on, on-bits, on_none, on-check}
+use Rattle.bit_writer.specs.Written.{written}
+use Rattle.bit_writer.specs.Writing.{Writing, place, joined, holding, behind_byte, put_raw, put_raws, coded, coded_run, put_byte, put_bit, finished, with_refusal, step, play}
 use Rattle.bit_writer.specs.Chunks.{bit_open, bit-whole}
 use Rattle.codes.specs.Coded.{flag_bit, only_if}
 
 -- ---- bytes
-pub raw_made : (s : Sink) (o l : List ℕ) (b n : ℕ) → l ≡ set o s.put b → n ≡ min (2 ^ 63) (s.put + 1)
-    → sink_over (record { escape = s.escape; zeros = s.zeros; put = n; cur = s.cur; have = s.have; refused = s.refused }) l ≡ put_raw (sink_over s o) b
+pub raw_made : (w : BitWriter) (o l : List ℕ) (b n : ℕ) → l ≡ set o w.put b → n ≡ min (2 ^ 63) (w.put + 1)
+    → written (record w { put = n }) l ≡ put_raw (written w o) b
 unfolding put_raw
-raw_made s o l b n p q = ap₂ (λ (k : ℕ) (x : List ℕ). sink_over (record { escape = s.escape; zeros = s.zeros; put = k; cur = s.cur; have = s.have; refused = s.refused }) x) q p
+raw_made w o l b n p q = ap₂ (λ (k : ℕ) (x : List ℕ). written (record w { put = k }) x) q p
 
 module _ (w : Writing) (b : ℕ) where
   byte-is : (xs : List ℕ) (z : ℕ) → coded w.sink.escape w.sink.zeros b ≡ xs → coded_run w.sink.escape w.sink.zeros b ≡ z
@@ -72,12 +74,14 @@ join_low : (cur b : ℕ) → joined cur (b % 2) ≡ joined cur b
 join_low cur b = omega arith
 
 module _ (w : Writing) (b : ℕ) where
-  pub put_open : place w.sink < 7 → holding w (joined w.sink.cur b) (place w.sink + 1) ≡ play w (putting (b % 2 ∷ []))
-  put_open h =
-      ap (λ (v : ℕ). holding w v (place w.sink + 1)) (sym (join_low w.sink.cur b)) ∙ sym (bit_open w (b % 2) h) ∙ sym (play-one w (b % 2))
+  one : w.sink.refused ≡ 0 → put_bit w (b % 2) ≡ play_on w (putting (b % 2 ∷ []))
+  one z = sym (on-bits w (b % 2 ∷ []) z ∙ play-one w (b % 2))
 
-  pub put_whole : 7 ≤ place w.sink → put_byte w (joined w.sink.cur b) ≡ play w (putting (b % 2 ∷ []))
-  put_whole h = ap (put_byte w) (sym (join_low w.sink.cur b)) ∙ sym (bit-whole w (b % 2) h) ∙ sym (play-one w (b % 2))
+  pub put_open : w.sink.refused ≡ 0 → place w.sink < 7 → holding w (joined w.sink.cur b) (place w.sink + 1) ≡ play_on w (putting (b % 2 ∷ []))
+  put_open z h = ap (λ (v : ℕ). holding w v (place w.sink + 1)) (sym (join_low w.sink.cur b)) ∙ sym (bit_open w (b % 2) h) ∙ one z
+
+  pub put_whole : w.sink.refused ≡ 0 → 7 ≤ place w.sink → put_byte w (joined w.sink.cur b) ≡ play_on w (putting (b % 2 ∷ []))
+  put_whole z h = ap (put_byte w) (sym (join_low w.sink.cur b)) ∙ sym (bit-whole w (b % 2) h) ∙ one z
 
 -- ---- refusals
 check-failed : (w : Writing) (n : ℕ) → with_refusal w (first w.sink.refused n) ≡ play w (check false n)
@@ -105,6 +109,14 @@ module _ (w : Writing) (ok : Bool) (n : ℕ) where
 
   pub demand_failed : ok ≡ false → w.sink.refused ≡ 0 → with_refusal w n ≡ play w (check ok n)
   demand_failed e h = ap (with_refusal w) (sym (ap (λ (r : ℕ). first r n) h ∙ first-left n)) ∙ failed e
+
+-- ---- a test whose outcome is a result
+module _ (w : Writing) (ok : Bool) (n : ℕ) where
+  pub test_met : ok ≡ true → w ≡ play_on w (check ok n)
+  test_met e = sym (ap (play_on w) (check-true ok n e) ∙ on_none w)
+
+  pub test_failed : ok ≡ false → w.sink.refused ≡ 0 → with_refusal w n ≡ play_on w (check ok n)
+  test_failed e h = demand_failed w ok n e h ∙ sym (on-check w ok n)
 
 -- ---- a part that is written or not
 module _ (w : Writing) (on : Bool) (xs : List Symbol) where

@@ -2,6 +2,8 @@ pub mod Writing
 pub mod Packed
 pub mod Chunks
 pub mod Played
+pub mod Stop
+pub mod Written
 pub mod Closing
 pub mod Answers
 pub mod ReadBack

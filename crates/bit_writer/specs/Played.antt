@@ -6,7 +6,7 @@ use Rattle.bit_writer.specs.Writing.{Writing, place, joined, behind_byte, coded,
 use Rattle.bit_writer.specs.Chunks.{bit_open, bit-whole, byte_leaves}
 
 -- ---- bits look at no refusal
-raws_refusal : (bs : List ℕ) (w : Writing) (r : ℕ) → put_raws (with_refusal w r) bs ≡ with_refusal (put_raws w bs) r
+pub raws_refusal : (bs : List ℕ) (w : Writing) (r : ℕ) → put_raws (with_refusal w r) bs ≡ with_refusal (put_raws w bs) r
 unfolding put_raws put_raw
 raws_refusal [] w r = refl
 raws_refusal (b ∷ bs) w r = raws_refusal bs (put_raw w b) r

@@ -1,8 +1,12 @@
-// Bytes into the output, at the sink's place, and the sink between them.
-ghost use Rattle.std.specs.Prelude.{◌≡◌, List, ℕ, ◌+◌, ◌^◌, min, set};
-ghost use Rattle.bit_writer.specs.Writing.{sink_over, put_raw, behind_byte, holding, put_byte};
+// Bytes into the output, at the writer's place.
+ghost use Rattle.std.specs.Prelude.{◌≡◌, set};
+ghost use Rattle.bit_writer.specs.Writing.{put_raw, put_byte};
+ghost use Rattle.bit_writer.specs.Written.{written};
 
-use super::Sink;
+use super::BitWriter;
+
+// A place that no output reaches: the count goes no further.
+const FARTHEST: usize = 1 << 63;
 
 // A store outside the output does nothing.
 pub fn store(out: &mut [u8], at: usize, b: u8)
@@ -13,76 +17,30 @@ pub fn store(out: &mut [u8], at: usize, b: u8)
     }
 }
 
-// The next place, and no further than one that no output reaches.
-fn next_place(at: usize) -> usize
-    ensures { result ≡ min (2 ^ 63) (at + 1) }
-{
-    if at < 0x8000_0000_0000_0000 {
-        return at + 1;
+impl BitWriter {
+    // One byte as it is.
+    pub(crate) fn put_raw(&mut self, out: &mut [u8], b: u8)
+        ensures { written self.new out.new ≡ put_raw (written self.old out.old) b }
+    {
+        store(out, self.put, b);
+        self.put = self.put.saturating_add(1).min(FARTHEST);
     }
-    0x8000_0000_0000_0000
-}
 
-// One byte as it is.
-pub fn put_raw(w: Sink, out: &mut [u8], b: u8) -> Sink
-    ensures { sink_over result out.new ≡ put_raw (sink_over w out.old) b }
-{
-    let at = w.put;
-    store(out, at, b);
-    Sink {
-        escape: w.escape,
-        zeros: w.zeros,
-        put: next_place(at),
-        cur: w.cur,
-        have: w.have,
-        refused: w.refused,
+    // A byte that is whole.
+    pub(crate) fn put_byte(&mut self, out: &mut [u8], b: u8)
+        ensures { written self.new out.new ≡ put_byte (written self.old out.old) b }
+    {
+        let mut zeros = self.zeros;
+        if self.escape {
+            if nal::needs_escape(zeros, b) {
+                self.put_raw(out, 3);
+                zeros = 0;
+            }
+            zeros = nal::zero_run(zeros, b);
+        }
+        self.put_raw(out, b);
+        self.zeros = zeros;
+        self.cur = 0;
+        self.have = 0;
     }
-}
-
-// The sink behind a whole byte, with a run of `zeros` zero bytes.
-fn behind_byte(w: Sink, zeros: u8) -> Sink
-    ensures { (o : List ℕ) → sink_over result o ≡ behind_byte (sink_over w o) zeros }
-{
-    Sink {
-        escape: w.escape,
-        zeros,
-        put: w.put,
-        cur: 0,
-        have: 0,
-        refused: w.refused,
-    }
-}
-
-// The sink with `have` bits of a byte, which spell `cur`.
-pub fn holding(w: Sink, cur: u8, have: u8) -> Sink
-    ensures { (o : List ℕ) → sink_over result o ≡ holding (sink_over w o) cur have }
-{
-    Sink {
-        escape: w.escape,
-        zeros: w.zeros,
-        put: w.put,
-        cur,
-        have,
-        refused: w.refused,
-    }
-}
-
-// A byte that is whole.
-pub fn put_byte(w: Sink, out: &mut [u8], b: u8) -> Sink
-    ensures { sink_over result out.new ≡ put_byte (sink_over w out.old) b }
-{
-    let z = w.zeros;
-    if !w.escape {
-        let t = put_raw(w, out, b);
-        return behind_byte(t, z);
-    }
-    if nal::needs_escape(z, b) {
-        let t = put_raw(w, out, 3);
-        let u = put_raw(t, out, b);
-        let run = nal::zero_run(0, b);
-        return behind_byte(u, run);
-    }
-    let t = put_raw(w, out, b);
-    let run = nal::zero_run(z, b);
-    behind_byte(t, run)
 }

@@ -1,54 +1,39 @@
 // Several bits at once, as many as a byte takes.
-ghost use Rattle.std.specs.Prelude.{◌≡◌, ◌+◌, ◌%◌, ◌^◌, ◌≤◌, ◌<◌};
+ghost use Rattle.std.specs.Prelude.{◌≡◌, ◌+◌, ◌%◌, ◌≤◌, ◌<◌};
 ghost use Rattle.codes.specs.Bits.{to_bits};
-ghost use Rattle.bit_writer.specs.Writing.{sink_over, place, feed};
+ghost use Rattle.bit_writer.specs.Writing.{feed};
+ghost use Rattle.bit_writer.specs.Written.{written};
 
-use super::Sink;
+use super::BitWriter;
 
-pub fn pow2(m: u32) -> u64
-    requires { m ≤ 8 }
-    ensures { (result ≡ 2 ^ m) × (0 < result) × (result ≤ 256) }
-{
-    1u64 << m
-}
-
-// The `m` low bits of `x` into the byte that is being made, which has room for them.
-fn put_chunk(w: Sink, out: &mut [u8], x: u64, m: u32) -> Sink
-    requires { (0 < m) × (place w + m ≤ 8) }
-    ensures { sink_over result out.new ≡ feed (sink_over w out.old) (to_bits m x) }
-{
-    let p = pow2(m);
-    let v = ((w.cur as u64 * p + x % p) % 256) as u8;
-    let n = w.have % 8 + m as u8;
-    if n < 8 {
-        return super::bytes::holding(w, v, n);
+impl BitWriter {
+    // The `m` low bits of `x` into the byte that is being made, which has room for them.
+    fn put_chunk(&mut self, out: &mut [u8], x: u64, m: u32)
+        requires { (0 < m) × (self.old.have % 8 + m ≤ 8) }
+        ensures { written self.new out.new ≡ feed (written self.old out.old) (to_bits m x) }
+    {
+        let p = 1u64 << m;
+        let v = ((self.cur as u64 * p + x % p) % 256) as u8;
+        let n = self.have % 8 + m as u8;
+        if n < 8 {
+            self.cur = v;
+            self.have = n;
+            return;
+        }
+        self.put_byte(out, v);
     }
-    super::bytes::put_byte(w, out, v)
-}
 
-// How many of `k` bits go into the byte that is being made.
-fn chunk(have: u8, k: u32) -> u32
-    requires { 0 < k }
-    ensures { (0 < result) × (result ≤ k) × (have % 8 + result ≤ 8) }
-{
-    let room = 8 - (have % 8) as u32;
-    if room < k {
-        return room;
+    // The `n` low bits of `value`, by as many as fit into a byte.
+    pub(crate) fn put_word(&mut self, out: &mut [u8], value: u64, n: u32)
+        requires { n ≤ 64 }
+        ensures { written self.new out.new ≡ feed (written self.old out.old) (to_bits n value) }
+    {
+        let mut k = n;
+        while 0 < k {
+            let room = 8 - (self.have % 8) as u32;
+            let m = k.min(room);
+            k -= m;
+            self.put_chunk(out, value >> k, m);
+        }
     }
-    k
-}
-
-// The `n` low bits of `value`, by as many as fit into a byte.
-pub fn put_word(w: Sink, out: &mut [u8], value: u64, n: u32) -> Sink
-    requires { n ≤ 64 }
-    ensures { sink_over result out.new ≡ feed (sink_over w out.old) (to_bits n value) }
-{
-    let mut t = w;
-    let mut k = n;
-    while 0 < k {
-        let m = chunk(t.have, k);
-        k -= m;
-        t = put_chunk(t, out, value >> k, m);
-    }
-    t
 }

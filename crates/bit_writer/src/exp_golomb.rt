@@ -2,53 +2,60 @@
 ghost use Rattle.std.specs.Prelude.{◌≡◌, ◌≤◌, ◌<◌, ltb};
 ghost use Rattle.codes.specs.ExpGolomb.{floor_log2, ue_code, code_num};
 ghost use Rattle.codes.specs.Symbols.{checked};
-ghost use Rattle.bit_writer.specs.Writing.{sink_over, feed, play};
+ghost use Rattle.bit_writer.specs.Writing.{feed};
+ghost use Rattle.bit_writer.specs.Stop.{play_on};
+ghost use Rattle.bit_writer.specs.Written.{written, ended};
 
-use super::Sink;
+use super::BitWriter;
+use refusal::Refusal;
 
 // The place of the highest 1.
 fn top(n: u64) -> u32
     requires { 0 < n }
     ensures { result ≡ floor_log2 n }
 {
-    63 - u64::leading_zeros(n)
+    63 - n.leading_zeros()
 }
 
-// The ue(v) code of `k`: k + 1 behind as many zeros as it has bits after its first.
-fn put_code(w: Sink, out: &mut [u8], k: u64) -> Sink
-    requires { k ≤ 4294967296 }
-    ensures { sink_over result out.new ≡ feed (sink_over w out.old) (ue_code k) }
-{
-    let n = k + 1;
-    let z = top(n);
-    if z < 32 {
-        return super::chunks::put_word(w, out, n, 2 * z + 1);
+impl BitWriter {
+    // The ue(v) code of `k`: k + 1 behind as many zeros as it has bits after its first.
+    pub(crate) fn put_code(&mut self, out: &mut [u8], k: u64)
+        requires { k ≤ 4294967296 }
+        ensures { written self.new out.new ≡ feed (written self.old out.old) (ue_code k) }
+    {
+        let n = k + 1;
+        let z = top(n);
+        if z < 32 {
+            self.put_word(out, n, 2 * z + 1);
+            return;
+        }
+        self.put_word(out, 0, z);
+        self.put_word(out, n, z + 1);
     }
-    let t = super::chunks::put_word(w, out, 0, z);
-    super::chunks::put_word(t, out, n, z + 1)
+
+    // The same behind its test.
+    pub(crate) fn put_tested(&mut self, out: &mut [u8], k: u64) -> Result<(), Refusal>
+        requires { k ≤ 4294967296 }
+        ensures { ended self.new out.new result
+            ≡ play_on (written self.old out.old) (checked (ltb k 4294967295) 25 (ue_code k)) }
+    {
+        super::test(has_code(k), Refusal::NoCode)?;
+        self.put_code(out, k);
+        Ok(())
+    }
 }
 
-// The same behind its test.
-pub fn put_tested(w: Sink, out: &mut [u8], k: u64) -> Sink
-    requires { k ≤ 4294967296 }
-    ensures { sink_over result out.new ≡ play (sink_over w out.old) (checked (ltb k 4294967295) 25 (ue_code k)) }
+// Whether a code number is below the last of 32 bits.
+pub fn has_code(k: u64) -> bool
+    ensures { result ≡ ltb k 4294967295 }
 {
-    let ok = k < 4294967295;
-    let t = super::demand(w, ok, 25);
-    put_code(t, out, k)
+    k < 4294967295
 }
 
 // The code number of a signed value.
 pub fn code_num(v: i32) -> u64
     ensures { (result ≡ code_num v) × (result ≤ 4294967296) }
 {
-    if v < 0 {
-        let m = 0 - (v as i64);
-        return 2 * (m as u64);
-    }
-    let p = v as u64;
-    if p == 0 {
-        return 0;
-    }
-    2 * p - 1
+    let m = u64::from(v.unsigned_abs());
+    if v <= 0 { 2 * m } else { 2 * m - 1 }
 }

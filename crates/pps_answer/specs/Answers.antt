@@ -1,29 +1,34 @@
 -- What reading answers, as docs/BEHAVIOUR.md has it: the record, the triples beside it and the bytes taken, or the
 -- number of a refusal.
-use Rattle.std.specs.Prelude.{ℕ, ◌/◌, ◌≡◌, List, Bool, true, false, cond, eqb}
-use Rattle.std.proofs.Common.{eq-eqb, ne_eqb}
+use Rattle.std.specs.Prelude.{ℕ, ◌/◌, List, cond, eqb, Result, Ok, Err}
+use Rattle.refusal.specs.declared.Refusal.{Refusal}
+use Rattle.refusal.specs.Numbers.{number}
+use Rattle.bit_reader.specs.declared.Cursor.{Cursor}
+use Rattle.bit_reader.specs.Gives.{Parsed, parsed}
 use Rattle.pps_record.specs.declared.VvcPps.{VvcPps}
 use Rattle.pps_record.specs.declared.VvcPpsPartition.{VvcPpsPartition}
 use Rattle.pps_record.specs.declared.VvcQpOffsets.{VvcQpOffsets}
 use Rattle.pps_parts.specs.declared.FrontRead.{FrontRead}
 use Rattle.pps_parts.specs.declared.BackRead.{BackRead}
-use Rattle.pps_parts.specs.declared.end.EndRead.{EndRead}
+use Rattle.pps_parts.specs.Ends.{end_read}
 use Rattle.pps_syntax.specs.Rbsp.{ReadSet, ReadAnswer, accepted, refused}
-use Rattle.pps_syntax.specs.Record.{record_of, no_triples, triples_of}
-use Rattle.pps_answer.specs.declared.PpsRead.{PpsRead}
-use Rattle.pps_answer.specs.declared.PpsAnswer.{PpsAnswer}
-use Rattle.pps_answer.specs.declared.PpsAnswer.TheVariants.{Accepted, Refused}
+use Rattle.pps_syntax.specs.Record.{record_of, triples_of}
+use Rattle.pps_answer.specs.declared.AcceptedPps.{AcceptedPps}
 
-abbrev pub accepted_pps : VvcPps → List VvcQpOffsets → ℕ → PpsRead
-accepted_pps pps triples taken =
-    record { answer = Accepted (record { pps = pps; bytes_taken = taken }); triples = triples }
+-- a set, or the number of a refusal
+pub data PpsAnswer : Type 0 where
+  Accepted : AcceptedPps → PpsAnswer
+  Refused : ℕ → PpsAnswer
 
-abbrev pub refused_pps : ℕ → PpsRead
-refused_pps n = record { answer = Refused n; triples = no_triples }
+unfoldable pub said : Result AcceptedPps Refusal → PpsAnswer
+said (Ok a) = Accepted a
+said (Err e) = Refused (number e)
 
-unfoldable pub is_accepted : PpsAnswer → Bool
-is_accepted (Accepted a) = true
-is_accepted (Refused n) = false
+abbrev pub accepted_pps : VvcPps → List VvcQpOffsets → ℕ → PpsAnswer
+accepted_pps pps triples taken = Accepted (record { pps = pps; triples = triples; bytes_taken = taken })
+
+abbrev pub refused_pps : ℕ → PpsAnswer
+refused_pps n = Refused n
 
 -- the record of a set that was read, and the triples beside it
 abbrev pub record_read : ReadSet → VvcPps
@@ -32,7 +37,7 @@ record_read a = record_of a.set a.extension_first_bit a.extension_count
 abbrev pub triples_read : ReadSet → List VvcQpOffsets
 triples_read a = triples_of a.set.back.chroma.list
 
-unfoldable pub answer_of : ReadAnswer → PpsRead
+unfoldable pub answer_of : ReadAnswer → PpsAnswer
 answer_of (accepted a) = accepted_pps (record_read a) (triples_read a) a.bytes_taken
 answer_of (refused n) = refused_pps n
 
@@ -65,7 +70,7 @@ record_from f p b first bits =
       pps_pic_width_minus_wraparound_offset = b.references.pps_pic_width_minus_wraparound_offset;
       pps_init_qp_minus26 = b.references.pps_init_qp_minus26;
       pps_cu_qp_delta_enabled_flag = b.references.pps_cu_qp_delta_enabled_flag;
-      chroma_tool_offsets = b.chroma;
+      chroma_tool_offsets = b.chroma.block;
       deblocking = b.deblocking;
       pps_rpl_info_in_ph_flag = b.picture_header.pps_rpl_info_in_ph_flag;
       pps_sao_info_in_ph_flag = b.picture_header.pps_sao_info_in_ph_flag;
@@ -79,27 +84,8 @@ record_from f p b first bits =
       pps_extension_data_bits = bits;
     }
 
-unfoldable pub answer_from : FrontRead → VvcPpsPartition → BackRead → EndRead → PpsRead
-answer_from f p b e =
-    cond (eqb e.next.refused 0)
-    (accepted_pps (record_from f p b (first_bit e.bits b.next.at) e.bits) b.triples (e.next.at / 8))
-    (refused_pps e.next.refused)
-
--- one law for each way out
-pub first-none : (bits at : ℕ) → bits ≡ 0 → 0 ≡ first_bit bits at
-unfolding first_bit
-first-none bits at e = rw (eq-eqb bits 0 e)
-
-pub first_some : (bits at : ℕ) → (bits ≡ 0 → ⊥) → at ≡ first_bit bits at
-unfolding first_bit
-first_some bits at e = rw (ne_eqb bits 0 e)
-
-module _ (f : FrontRead) (p : VvcPpsPartition) (b : BackRead) (e : EndRead) where
-  pub answer-refused : (e.next.refused ≡ 0 → ⊥) → refused_pps e.next.refused ≡ answer_from f p b e
-  unfolding answer_from
-  answer-refused h = rw (ne_eqb e.next.refused 0 h)
-
-  pub answer-accepted : {first : ℕ} → e.next.refused ≡ 0 → first ≡ first_bit e.bits b.next.at
-      → accepted_pps (record_from f p b first e.bits) b.triples (e.next.at / 8) ≡ answer_from f p b e
-  unfolding answer_from
-  answer-accepted h i = rw (eq-eqb e.next.refused 0 h, i)
+-- the end that is read behind the parts, and all together
+unfoldable pub answer_from : FrontRead → VvcPpsPartition → BackRead → List ℕ → Cursor → Parsed AcceptedPps
+answer_from f p b s c =
+    let n : Parsed ℕ = end_read b.picture_header.pps_extension_flag s c in
+    parsed (record { pps = record_from f p b (first_bit n.value c.at) n.value; triples = b.chroma.triples; bytes_taken = n.next.at / 8 }) n.next

@@ -3,16 +3,15 @@ use Rattle.std.specs.Prelude.{ℕ, List, cond, eqb, length}
 use Rattle.tables.specs.Tables.{over}
 use Rattle.pps_syntax.specs.FromRecord.{Lent, tables_long}
 use Rattle.pps_syntax.specs.Rbsp.{ReadAnswer, read_rbsp, before_fields, rbsp_of}
-use Rattle.pps_answer.specs.declared.PpsRead.{PpsRead}
-use Rattle.pps_answer.specs.Answers.{refused_pps, answer_of}
+use Rattle.pps_answer.specs.Answers.{PpsAnswer, refused_pps, answer_of}
 use Rattle.pps_answer.specs.Lending.{after_fields}
 
 pub record ReadOutcome : Type 0 where
-  pub answer : PpsRead
+  pub answer : PpsAnswer
   pub work : List ℕ
   pub tables : Lent
 
-abbrev pub outcome : PpsRead → List ℕ → Lent → ReadOutcome
+abbrev pub outcome : PpsAnswer → List ℕ → Lent → ReadOutcome
 outcome answer work tables = record { answer = answer; work = work; tables = tables }
 
 -- unchanged after 1 to 5; else the RBSP in the work buffer, and the tables cleared or filled

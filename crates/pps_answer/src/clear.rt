@@ -1,5 +1,5 @@
 // Clearing the lent tables.
-ghost use Rattle.std.specs.Prelude.{cond, ◌≡◌};
+ghost use Rattle.std.specs.Prelude.{◌≡◌};
 ghost use Rattle.pps_tables.specs.Mutable.{before, after};
 ghost use Rattle.pps_answer.specs.Lending.{cleared};
 
@@ -22,29 +22,4 @@ pub fn clear_tables(
     clear_u32(tile_row_heights);
     clear_rows(entries);
     clear_u32(split_heights);
-}
-
-// The same where the set was not accepted.
-pub fn clear_unless(
-    accepted: bool,
-    subpic_ids: &mut [u32],
-    tile_column_widths: &mut [u32],
-    tile_row_heights: &mut [u32],
-    entries: &mut [[u32; ENTRY_LEN]],
-    split_heights: &mut [u32],
-)
-    ensures { after subpic_ids tile_column_widths tile_row_heights entries split_heights
-        ≡ cond accepted (before subpic_ids tile_column_widths tile_row_heights entries split_heights)
-        (cleared (before subpic_ids tile_column_widths tile_row_heights entries split_heights)) }
-{
-    if accepted {
-        return;
-    }
-    clear_tables(
-        subpic_ids,
-        tile_column_widths,
-        tile_row_heights,
-        entries,
-        split_heights,
-    );
 }

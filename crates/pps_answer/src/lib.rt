@@ -2,90 +2,55 @@
 #![tactic(auto)]
 
 ghost use Rattle.std.specs.Prelude.{◌≡◌};
-ghost use Rattle.pps_answer.specs.Answers.{refused_pps, is_accepted, first_bit, answer_from};
+ghost use Rattle.bit_reader.specs.Gives.{Gives};
+ghost use Rattle.pps_answer.specs.Answers.{first_bit, answer_from};
 
-use pps_parts::end::EndRead;
+use bit_reader::BitReader;
+use pps_parts::end::read_end;
 use pps_parts::{BackRead, FrontRead};
 use pps_record::{VvcPps, VvcPpsPartition, VvcQpOffsets};
+use refusal::Refusal;
 
 pub mod before;
 pub mod clear;
 
-// The record, and how many bytes of the RBSP the set took.
+// The record, the triples of its chroma list, which are those in use and then zeros, and how many bytes of the RBSP the
+// set took.
 #[derive(Clone, Copy)]
 pub struct AcceptedPps {
     pub pps: VvcPps,
+    pub triples: [VvcQpOffsets; 6],
     pub bytes_taken: usize,
 }
 
-#[derive(Clone, Copy)]
-pub enum PpsAnswer {
-    Accepted(AcceptedPps),
-    Refused(u8),
-}
-
-// The triples of the chroma list stand beside the answer, since an enum can't hold an array: those in use, then zeros.
-// All are zeros after a refusal.
-#[derive(Clone, Copy)]
-pub struct PpsRead {
-    pub answer: PpsAnswer,
-    pub triples: [VvcQpOffsets; 6],
-}
-
-impl PpsRead {
-    // A refusal, with zeros for triples.
-    pub fn refused(number: u8) -> PpsRead
-        ensures { result ≡ refused_pps number }
-    {
-        PpsRead {
-            answer: PpsAnswer::Refused(number),
-            triples: [VvcQpOffsets([0, 0, 0]); 6],
-        }
-    }
-
-    pub fn is_accepted(self) -> bool
-        ensures { result ≡ is_accepted self.answer }
-    {
-        let answer = self.answer;
-        match answer {
-            PpsAnswer::Accepted(_a) => true,
-            PpsAnswer::Refused(_number) => false,
-        }
-    }
-}
-
+#[tactic(auto, unfolding(crate::specs::Answers::first_bit))]
 fn first_bit(bits: usize, at: usize) -> usize
     ensures { result ≡ first_bit bits at }
 {
-    if bits == 0 {
-        return 0;
-    }
-    at
+    if bits == 0 { 0 } else { at }
 }
 
-// The record and the triples of the parts, unless something was refused.
+// Reads the end of a set whose parts have been read, and puts them together.
 pub fn answer_of(
+    r: &mut BitReader<'_>,
     front: FrontRead,
     partition: VvcPpsPartition,
     back: BackRead,
-    end: EndRead,
-) -> PpsRead
-    ensures { result ≡ answer_from front partition back end }
+) -> Result<AcceptedPps, Refusal>
+    ensures { Gives (answer_from front partition back) r.old r.new result }
 {
-    let next = end.next;
-    if next.refused != 0 {
-        return PpsRead::refused(next.refused);
-    }
-    let behind = back.next;
-    let pps_extension_data_first_bit = first_bit(end.bits, behind.at);
+    let at = r.bit_pos;
+    let flags = back.picture_header;
+    let bits = read_end(r, flags.pps_extension_flag)?;
+    let pps_extension_data_first_bit = first_bit(bits, at);
     let head = front.head;
     let kind = front.kind;
     let references = back.references;
-    let flags = back.picture_header;
     let pps_conf_win_offsets = front.conf_win;
     let pps_scaling_win_offsets = front.scaling_win;
     let subpic_id_mapping = front.subpic_ids;
-    let chroma_tool_offsets = back.chroma;
+    let chroma = back.chroma;
+    let chroma_tool_offsets = chroma.block;
     let deblocking = back.deblocking;
     let pps = VvcPps {
         pps_pic_parameter_set_id: head.pps_pic_parameter_set_id,
@@ -120,15 +85,13 @@ pub fn answer_of(
         pps_slice_header_extension_present_flag: flags.pps_slice_header_extension_present_flag,
         pps_extension_flag: flags.pps_extension_flag,
         pps_extension_data_first_bit,
-        pps_extension_data_bits: end.bits,
+        pps_extension_data_bits: bits,
     };
+    let triples = chroma.triples;
     let accepted = AcceptedPps {
         pps,
-        bytes_taken: next.at / 8,
-    };
-    let triples = back.triples;
-    PpsRead {
-        answer: PpsAnswer::Accepted(accepted),
         triples,
-    }
+        bytes_taken: r.bit_pos / 8,
+    };
+    Ok(accepted)
 }

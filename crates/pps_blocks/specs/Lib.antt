@@ -1,2 +1,1 @@
-pub mod IdReads
 pub mod Triples

@@ -11,7 +11,7 @@ use Rattle.refusal.specs.Numbers.{number}
 use Rattle.bit_reader.specs.declared.BitReader.{BitReader}
 use Rattle.bit_reader.specs.Reading.{refusal}
 use Rattle.bit_reader.specs.Gives.{Parsed, parsed, cursor_of, Gives, value_read}
-use Rattle.bit_reader.proofs.Gives.{given, given_back, refused_back, not-0, over}
+use Rattle.bit_reader.proofs.Gives.{given, given_back, refuses, refused_back, not-0, over}
 use Rattle.syntax.specs.Element.{Element}
 use Rattle.syntax.specs.Elements.{or_else}
 use Rattle.syntax.specs.Lists.{many, none, cons_more}
@@ -145,9 +145,19 @@ pub filled_numbers : {read : List ℕ → Cursor → Parsed ℕ} {count from : �
 filled_numbers e f = let g = filled_as e f in (g.0, (g.1.0, g.1.1 ∙ rw map-id))
 
 -- the whole list, where no value was refused
+pub filled-whole : {A B : Type 0} {read : List ℕ → Cursor → Parsed A} {put : A → B} {count from : ℕ} {p₀ p : BitReader} {t₀ t : List B} {i : ℕ} (x : List ℕ → Cursor → Parsed (List A))
+    → list_read read count p₀.bytes.now (cursor_of p₀) ≡ x p₀.bytes.now (cursor_of p₀) → Filling read put count from p₀ t₀ i p t → count ≤ i
+    → Gives x p₀ p (Ok (value_read x p₀)) × (length (value_read x p₀) ≡ count) × (t ≡ sets t₀ from (map put (value_read x p₀)))
+filled-whole {count = count} {p₀ = p₀} {i = i} x e f h =
+    let all = filled_as e (fill_ends f h) in
+    (given f.bytes (ap (parsed (value_read x p₀)) all.0), omega (arith, all.1.0, f.within), all.1.1)
+
 pub filled-list : {read : List ℕ → Cursor → Parsed ℕ} {count from : ℕ} {p₀ p : BitReader} {t₀ t : List ℕ} {i : ℕ} (x : List ℕ → Cursor → Parsed (List ℕ))
     → list_read read count p₀.bytes.now (cursor_of p₀) ≡ x p₀.bytes.now (cursor_of p₀) → Filling read (λ v. v) count from p₀ t₀ i p t → count ≤ i
     → Gives x p₀ p (Ok (value_read x p₀)) × (length (value_read x p₀) ≡ count) × (t ≡ sets t₀ from (value_read x p₀))
-filled-list {count = count} {p₀ = p₀} {i = i} x e f h =
-    let all = filled_numbers e (fill_ends f h) in
-    (given f.bytes (ap (parsed (value_read x p₀)) all.0), omega (arith, all.1.0, f.within), all.1.1)
+filled-list x e f h = let g = filled-whole x e f h in (g.0, g.1, g.2 ∙ rw map-id)
+
+-- a value was refused
+pub filled-stop : {A B : Type 0} {read : List ℕ → Cursor → Parsed A} {put : A → B} {count from : ℕ} {p₀ p q : BitReader} {t₀ t : List B} {i : ℕ} {e : Refusal} (x : List ℕ → Cursor → Parsed (List A))
+    → list_read read count p₀.bytes.now (cursor_of p₀) ≡ x p₀.bytes.now (cursor_of p₀) → Filling read put count from p₀ t₀ i p t → i < count → Gives read p q (Err e) → Gives x p₀ q (Err e)
+filled-stop x e f h g = refuses (g.bytes ∙ f.bytes) (filled_as e (fill_stops f h g)).0

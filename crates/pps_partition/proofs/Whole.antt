@@ -29,6 +29,7 @@ use Rattle.pps_slices.proofs.Chain.{was_read, was_refused}
 use Rattle.pps_partition.specs.declared.slicing.SlicingRead.{SlicingRead}
 use Rattle.pps_partition.specs.declared.tiles.TileSizesRead.{TileSizesRead}
 use Rattle.pps_partition.specs.GridTests.{axes_tested, grid_tested}
+use Rattle.pps_partition.specs.PartitionAnswer.{one_block}
 use Rattle.pps_partition.specs.Slicing.{Slicing, slicing, slicing_kept}
 use Rattle.pps_partition.specs.TileSizes.{TileSizes, tile_sizes, sizes_kept, grid_from}
 
@@ -100,10 +101,10 @@ module _ (W H : ℕ) where
   tested-as t at = tests_are _ _ _ _ at
 
   abbrev pub Block : BitReader → BitReader → Result VvcPpsPartition Refusal → Type 0
-  Block p r x = Gives (held_as (λ (b : PartitionBlock). partition_record 1 (b ∷ [])) (parse (partition W H))) p r x
+  Block p r x = Gives (held_as one_block (parse (partition W H))) p r x
 
   block-refused : {p r : BitReader} {e : Refusal} → Gives (parse (partition W H)) p r (Err e) → Block p r (Err e)
-  block-refused g = holds-none (λ (b : PartitionBlock). partition_record 1 (b ∷ [])) g
+  block-refused g = holds-none one_block g
 
   -- the sizes read from a place, their grid, the explicit rows and the picture's height
   abbrev sizes_at : BitReader → TileSizes
@@ -181,7 +182,7 @@ module _ (W H : ℕ) where
             pps_loop_filter_across_slices_enabled_flag = l.across_slices;
           }))
           unfolding partition_record axis_of
-          block_made = holds (λ (b : PartitionBlock). partition_record 1 (b ∷ [])) block (rw (← S.value, ← L.value) refl)
+          block_made = holds one_block block (rw (← S.value, ← L.value) refl)
 
           pub columns_put : (t u : List ℕ) → u ≡ sets t 0 (sizes_at p).pps_tile_column_width_minus1 → u ≡ sets t 0 (value_read (parse (partition W H)) p).pps_tile_column_width_minus1
           columns_put t u e = e ∙ ap (λ (b : PartitionBlock). sets t 0 b.pps_tile_column_width_minus1) (sym block.value)

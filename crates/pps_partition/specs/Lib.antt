@@ -1,3 +1,4 @@
+pub mod PartitionAnswer
 pub mod TileSizes
 pub mod SliceFlags
 pub mod GridTests

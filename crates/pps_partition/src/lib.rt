@@ -1,14 +1,14 @@
 // The tile and slice partition block of a picture parameter set (the Rust's parse_partition), read into lent tables.
 #![tactic(auto)]
 
-ghost use Rattle.std.specs.Prelude.{◌≡◌, ◌∷◌, [], OnOk};
+ghost use Rattle.std.specs.Prelude.{◌≡◌, OnOk};
 ghost use Rattle.std.proofs.lemmas.List.Edits.{sets};
 ghost use Rattle.bit_reader.specs.Gives.{Gives, held_as, value_read};
 ghost use Rattle.pps_syntax.specs.PartitionSyntax.{partition};
-ghost use Rattle.pps_syntax.specs.Record.{partition_record};
 ghost use Rattle.pps_syntax.specs.SliceTables.{put_slices};
 ghost use Rattle.pps_tables.specs.Mutable.{slices_before, slices_after};
 ghost use Rattle.syntax.specs.Syntax.{parse};
+ghost use Rattle.pps_partition.specs.PartitionAnswer.{one_block};
 
 use bit_reader::BitReader;
 use pps_record::VvcPpsPartition;
@@ -32,8 +32,7 @@ pub fn read_partition(
     entries: &mut [[u32; ENTRY_LEN]],
     split_heights: &mut [u32],
 ) -> Result<VvcPpsPartition, Refusal>
-    ensures answer { Gives (held_as (λ block. partition_record 1 (block ∷ [])) (parse (partition width height)))
-        r.old r.new result }
+    ensures answer { Gives (held_as one_block (parse (partition width height))) r.old r.new result }
     ensures columns { OnOk result (tile_column_widths.new
         ≡ sets tile_column_widths.old 0
         (value_read (parse (partition width height)) r.old).pps_tile_column_width_minus1) }

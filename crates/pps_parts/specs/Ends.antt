@@ -3,10 +3,17 @@ use Rattle.std.specs.Prelude.{ℕ, ◌≤◌, ◌≡◌, refl, List, Bool, true,
 use Rattle.std.proofs.Common.{arith, eq-eqb, ne_eqb}
 use Rattle.bit_reader.specs.declared.Cursor.{Cursor}
 use Rattle.bit_reader.specs.Extension.{extension_bits}
+use Rattle.bit_reader.specs.Gives.{Parsed, parsed}
+use Rattle.bit_reader.specs.Reading.{trailing_read}
+use Rattle.pps_syntax.specs.Rbsp.{behind_extension}
 use Rattle.syntax.specs.Elements.{is_set}
 
 unfoldable pub extension_at : List ℕ → ℕ → Cursor → ℕ
 extension_at s flag c = cond (is_set flag && eqb c.refused 0) (extension_bits s c.at) 0
+
+-- the extension bits and the trailing bits: how many extension bits there are, and the cursor behind it all
+unfoldable pub end_read : ℕ → List ℕ → Cursor → Parsed ℕ
+end_read flag s c = parsed (extension_at s flag c) (trailing_read s (behind_extension c (extension_at s flag c)))
 
 pub extension_unset : (s : List ℕ) (flag : ℕ) (c : Cursor) → flag ≡ 0 → 0 ≡ extension_at s flag c
 unfolding extension_at

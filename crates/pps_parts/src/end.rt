@@ -1,41 +1,23 @@
 // What stands behind the fields of a set.
 ghost use Rattle.std.specs.Prelude.{◌≡◌};
-ghost use Rattle.bit_reader.specs.Reading.{trailing_read};
-ghost use Rattle.pps_syntax.specs.Rbsp.{behind_extension};
-ghost use Rattle.pps_parts.specs.Ends.{extension_at};
+ghost use Rattle.bit_reader.specs.Gives.{Gives, cursor_of};
+ghost use Rattle.pps_parts.specs.Ends.{extension_at, end_read};
 
-use bit_reader::Cursor;
+use bit_reader::BitReader;
+use refusal::Refusal;
 
-// The extension bits and the trailing bits: how many extension bits there are, and the cursor behind it all.
-#[derive(Clone, Copy)]
-pub struct EndRead {
-    pub bits: usize,
-    pub next: Cursor,
+fn extension_bits(r: &BitReader<'_>, flag: u8) -> usize
+    ensures { result ≡ extension_at r.now.bytes.now flag (cursor_of r.now) }
+{
+    if flag == 0 { 0 } else { r.extension_bits() }
 }
 
-fn extension_bits(s: &[u8], flag: u8, c: Cursor) -> usize
-    ensures { result ≡ extension_at s.now flag c }
+// The extension bits and the trailing bits; how many extension bits there are.
+pub fn read_end(r: &mut BitReader<'_>, flag: u8) -> Result<usize, Refusal>
+    ensures { Gives (end_read flag) r.old r.new result }
 {
-    if flag == 0 {
-        return 0;
-    }
-    if c.refused != 0 {
-        return 0;
-    }
-    bit_reader::extension_bits(s, c.at)
-}
-
-// 22 or 23 where the trailing bits are wrong, unless there is a refusal already.
-pub fn read_end(s: &[u8], flag: u8, c: Cursor) -> EndRead
-    ensures { (result.bits ≡ extension_at s.now flag c) × (result.next ≡ trailing_read s.now (behind_extension c result.bits)) }
-{
-    let bits = extension_bits(s, flag, c);
-    let at = c.at;
-    let to = at + bits;
-    let behind = Cursor {
-        at: to,
-        refused: c.refused,
-    };
-    let next = bit_reader::rbsp_trailing_bits(s, behind);
-    EndRead { bits, next }
+    let bits = extension_bits(r, flag);
+    r.bit_pos += bits;
+    r.rbsp_trailing_bits()?;
+    Ok(bits)
 }

@@ -1,14 +1,12 @@
 -- The symbols of a list, element by element, as a loop puts them.
-use Prim.Native.Nat.{ℕ, zero, suc, ◌+◌, ◌≤◌, ◌<◌, min}
+use Prim.Native.Nat.{ℕ, zero, suc, min}
 use Rattle.std.specs.Prelude.{◌≡◌, refl, Bool, false, eqb, length, take}
 use Rattle.std.proofs.Math.Path.{sym, ap}
-use Rattle.std.proofs.Common.{◌∙◌, add-one, arith, eq-eqb, ne_eqb, eqb-true}
+use Rattle.std.proofs.Common.{◌∙◌, arith, eq-eqb, ne_eqb, eqb-true}
 use mathlib.Core.List.{List, [], ◌∷◌, ◌++◌, append_assoc}
 use Rattle.std.proofs.Math.Bool.{true}
-use Rattle.std.proofs.Math.ListN.{get_or, drop}
 use Rattle.std.proofs.lemmas.Bool.{eqb-false}
 use Rattle.codes.specs.Symbols.{Symbol, check, check-true}
-use Rattle.bit_writer.specs.Writing.{Writing, play, play-none, play-append}
 use Rattle.syntax.specs.Element.{Element}
 use Rattle.syntax.specs.Lists.{many}
 
@@ -32,22 +30,6 @@ module _ {A : Type 0} where
   many-each (suc k) e n [] = rw (ne_eqb 0 (suc k) (λ q. absurd (omega arith)))
   many-each (suc k) e n (x ∷ l) = rw (eqb-suc (length l) k) (ap (λ (s : List Symbol). e.symbols x ++ s) (many-each k e n l) ∙ sym (append_assoc (e.symbols x) (each e (take k l)) (check (eqb (length l) k) n)))
 
-  drop-next : (t : List A) (n i : ℕ) (d : A) → i < n → n ≤ length t → drop i (take n t) ≡ get_or t i d ∷ drop (suc i) (take n t)
-  drop-next [] n i d h l = absurd (omega arith)
-  drop-next (x ∷ t) zero i d h l = absurd (omega arith)
-  drop-next (x ∷ t) (suc n) zero d h l = refl
-  drop-next (x ∷ t) (suc n) (suc i) d h l = drop-next t n i d (omega arith) (omega arith)
-
-  drop-end : (t : List A) (n i : ℕ) → n ≤ i → drop i (take n t) ≡ []
-  drop-end [] zero zero h = refl
-  drop-end [] zero (suc i) h = refl
-  drop-end [] (suc n) zero h = absurd (omega arith)
-  drop-end [] (suc n) (suc i) h = refl
-  drop-end (x ∷ t) zero zero h = refl
-  drop-end (x ∷ t) zero (suc i) h = refl
-  drop-end (x ∷ t) (suc n) zero h = absurd (omega arith)
-  drop-end (x ∷ t) (suc n) (suc i) h = drop-end t n i (omega arith)
-
   take_none : (n : ℕ) → take {A = A} n [] ≡ []
   take_none zero = refl
   take_none (suc n) = refl
@@ -59,16 +41,3 @@ module _ {A : Type 0} where
   take-cut zero (suc c) n (x ∷ t) e = let z : n ≡ 0 = omega arith in rw z
   take-cut (suc k) (suc c) zero (x ∷ t) e = absurd (omega arith)
   take-cut (suc k) (suc c) (suc n) (x ∷ t) e = ap (λ (l : List A). x ∷ l) (take-cut k c n t (omega arith))
-
-  -- ---- a loop over the first n of a table: what is left to put, behind what was put
-  pub each_turn : (w : Writing) (e : Element A) (t : List A) (n i : ℕ) (d : A) {v : Writing} → i < n → n ≤ length t → v ≡ play w (e.symbols (get_or t i d))
-      → play v (each e (drop (i + 1) (take n t))) ≡ play w (each e (drop i (take n t)))
-  unfolding each
-  each_turn w e t n i d h l p =
-      ap (λ (x : Writing). play x (each e (drop (i + 1) (take n t)))) p
-      ∙ sym (play-append w (e.symbols (get_or t i d)) (each e (drop (i + 1) (take n t))))
-      ∙ ap (λ (xs : List A). play w (each e xs)) (ap (λ (m : ℕ). get_or t i d ∷ drop m (take n t)) (add-one i) ∙ sym (drop-next t n i d h l))
-
-  pub each-end : (w : Writing) (e : Element A) (t : List A) (n i : ℕ) → n ≤ i → play w (each e (drop i (take n t))) ≡ w
-  unfolding each
-  each-end w e t n i h = rw (drop-end t n i h) (play-none w)

@@ -1,2 +1,1 @@
 pub mod SubpicIdsPut
-pub mod ChromaPut

@@ -9,7 +9,7 @@ use Rattle.std.proofs.Math.ListN.{length}
 use borrow.Author.Tests.{eqb-true, eqb-false, ne_eqb, le-ltb}
 use Rattle.codes.specs.Coded.{ue_symbols}
 use Rattle.codes.specs.Symbols.{Symbol, check, check-true}
-use Rattle.bit_writer.specs.Writing.{Writing, play}
+use Rattle.bit_writer.specs.Writing.{Writing}
 use Rattle.partition.specs.Checks as checks
 use Rattle.partition.specs.Checks.{Check, refused_with, first_bad, number_of, AllPass, Numbered, not_past}
 use Rattle.partition.specs.Entry.{some_at_least}
@@ -26,11 +26,10 @@ use Rattle.refusal.specs.Numbers.{refused}
 use Rattle.grid_sizes.specs.declared.GridSizes.{GridSizes}
 use Rattle.grid_sizes.specs.Answers.{with_number, grid_sizes}
 use Rattle.grid_sizes.specs.Laws.{grid-number}
-use Rattle.pps_put_slices.specs.Stop.{play_on, on_none, on-append, on-check, on-refused, passed}
+use Rattle.bit_writer.specs.Stop.{play_on, on_none, on-append, on-check, on-refused, passed}
 use Rattle.pps_put_slices.specs.Sizes.{size_symbols, sizes_symbols}
-use Rattle.pps_put_slices.specs.PartsMade.{none_before}
 use Rattle.pps_put_partition.specs.Puts.{tiles_put, grid_put}
-use Rattle.pps_put_partition.specs.Made.{ctu-small, listed}
+use Rattle.pps_put_partition.specs.Made.{none_before, ctu-small, listed}
 
 -- ---- checks as tests of writing
 unfoldable pub checks_on : List Check → Writing → Writing
@@ -131,17 +130,22 @@ module _ (W H ctu : ℕ) (ws hs : List ℕ) (w : Writing) where
       )
 
   -- the answer's number does for the four tests
-  pub grid-put : {a b : Writing} (r : Result GridSizes Refusal) → a ≡ tiles_put W H ctu ws hs w → with_number r ≡ grid_sizes W H ctu ws hs → b ≡ play a (check (eqb (refused r) 0) (refused r)) → b ≡ grid_put W H ctu ws hs (tiles_put W H ctu ws hs w)
+  pub grid-put : {a b : Writing} (r : Result GridSizes Refusal) → a ≡ tiles_put W H ctu ws hs w → with_number r ≡ grid_sizes W H ctu ws hs → b ≡ play_on a (check (eqb (refused r) 0) (refused r)) → b ≡ grid_put W H ctu ws hs (tiles_put W H ctu ws hs w)
   unfolding grid_put grid_checks explicit_checks axis_checks Numbered
   grid-put {a} {b} r e f h = cases (eqb a.sink.refused 0) refl ∙ ap (grid_put W H ctu ws hs) e
     where
       cases : (t : Bool) → eqb a.sink.refused 0 ≡ t → b ≡ grid_put W H ctu ws hs a
       cases true z =
           let number : refused r ≡ number_of (first_bad (grid_checks W H ctu ws hs)) = grid-number W H ctu ws hs r f in
-          h ∙ sym (on-check a (eqb (refused r) 0) (refused r)) ∙ ap (λ (n : ℕ). play_on a (check (eqb n 0) n)) number
+          h ∙ ap (λ (n : ℕ). play_on a (check (eqb n 0) n)) number
           ∙ checks-first (grid_checks W H ctu ws hs) a (lit< tt, (lit< tt, (lit< tt, (lit< tt, (lit< tt, (lit< tt, (lit< tt, (lit< tt, (lit< tt, tt)))))))))
           ∙ grid-checks a (eqb-true _ _ z) (sym e)
       cases false z =
           let n = eqb-false _ _ z in
-          h ∙ sym (on-check a (eqb (refused r) 0) (refused r)) ∙ on-refused a _ n
+          h ∙ on-refused a _ n
           ∙ sym (rw (on-refused a _ n, on-refused a _ n, on-refused a _ n, on-refused a _ n) refl)
+
+  -- behind a refusal it makes none
+  pub grid-stuck : {a : Writing} → a ≡ tiles_put W H ctu ws hs w → (a.sink.refused ≡ 0 → ⊥) → a ≡ grid_put W H ctu ws hs (tiles_put W H ctu ws hs w)
+  unfolding grid_put
+  grid-stuck {a} e n = sym (rw (on-refused a _ n, on-refused a _ n, on-refused a _ n, on-refused a _ n) refl) ∙ ap (grid_put W H ctu ws hs) e

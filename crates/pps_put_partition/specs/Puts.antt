@@ -15,8 +15,8 @@ use Rattle.syntax.specs.Syntax.{symbols_for, ◌for◌}
 use Rattle.pps_syntax.specs.PartitionSyntax.{PartitionBlock, partition, some, coded, ctu_size, explicit, rect_flag, slices_minus1, several}
 use Rattle.pps_syntax.specs.SliceSyntax.{RectSlice, rect_slices}
 use Rattle.pps_syntax.specs.SliceFlags.{SliceFlags, codes}
-use Rattle.pps_put_slices.specs.Stop.{play_on, on-refused}
-use Rattle.pps_put_slices.specs.StopSteps.{stops-done, stops, stops-test, stops-both, stops_past}
+use Rattle.bit_writer.specs.Stop.{play_on, on-refused}
+use Rattle.syntax.specs.StopSteps.{stops-done, stops, stops-test, stops-both, stops_past}
 
 -- the CTU size and the explicit tile sizes
 unfoldable pub tiles_put : ℕ → ℕ → ℕ → List ℕ → List ℕ → Writing → Writing

@@ -1,44 +1,40 @@
 // The flags of the partition block and N (H.266 7.3.2.5).
-ghost use Rattle.std.specs.Prelude.{◌≡◌, [], ◌∷◌};
-ghost use Rattle.codes.specs.Coded.{flag_bit, only_if};
-ghost use Rattle.codes.specs.Symbols.{putting};
-ghost use Rattle.bit_writer.specs.Writing.{sink_over};
+ghost use Rattle.std.specs.Prelude.{◌≡◌};
+ghost use Rattle.bit_writer.specs.Stop.{play_on};
+ghost use Rattle.bit_writer.specs.Written.{written, ended};
+ghost use Rattle.syntax.proofs.Elements.{flag_if};
 ghost use Rattle.pps_syntax.specs.PartitionSyntax.{rect_flag, slices_minus1};
-ghost use Rattle.pps_put_slices.specs.Stop.{play_on};
 
-use bit_writer::{Sink, demand};
-use pps_put_slices::leaves::put_ue;
+use bit_writer::{BitWriter, test};
+use refusal::Refusal;
 use tile_sizes::MAX_NUM_SLICES_MINUS1;
 
-pub fn put_flag_if(w: Sink, out: &mut [u8], on: bool, v: u8) -> Sink
-    ensures { sink_over result out.new
-        ≡ play_on (sink_over w out.old) (only_if on (putting (flag_bit v ∷ []))) }
+pub fn put_flag_if(w: &mut BitWriter, out: &mut [u8], on: bool, v: u8)
+    ensures { written w.new out.new ≡ play_on (written w.old out.old) ((flag_if on).symbols v) }
 {
-    if w.refused != 0 {
-        return w;
+    if on {
+        w.put_flag(out, v);
     }
-    bit_writer::guarded::put_flag_if(w, out, on, v)
 }
 
 // pps_rect_slice_flag; a single tile has 1 for it, or 26.
-pub fn put_rect(w: Sink, out: &mut [u8], several: bool, v: u8) -> Sink
-    ensures { sink_over result out.new
-        ≡ play_on (sink_over w out.old) ((rect_flag several).symbols v) }
+pub fn put_rect(w: &mut BitWriter, out: &mut [u8], several: bool, v: u8) -> Result<(), Refusal>
+    ensures { ended w.new out.new result ≡ play_on (written w.old out.old) ((rect_flag several).symbols v) }
 {
-    if several {
-        return put_flag_if(w, out, true, v);
+    if !several {
+        return test(v == 1, Refusal::Contradiction);
     }
-    demand(w, v == 1, 26)
+    w.put_flag(out, v);
+    Ok(())
 }
 
 // pps_num_slices_in_pic_minus1; 14 over its limit.
-pub fn put_num_slices(w: Sink, out: &mut [u8], on: bool, n: u32) -> Sink
-    ensures { sink_over result out.new
-        ≡ play_on (sink_over w out.old) ((slices_minus1 on).symbols n) }
+pub fn put_num_slices(w: &mut BitWriter, out: &mut [u8], on: bool, n: u32) -> Result<(), Refusal>
+    ensures { ended w.new out.new result ≡ play_on (written w.old out.old) ((slices_minus1 on).symbols n) }
 {
-    if on {
-        let a = demand(w, n <= MAX_NUM_SLICES_MINUS1, 14);
-        return put_ue(a, out, n);
+    if !on {
+        return Ok(());
     }
-    w
+    test(n <= MAX_NUM_SLICES_MINUS1, Refusal::TooManySlices)?;
+    w.put_ue(out, n)
 }

@@ -1,108 +1,100 @@
 // The partition block behind its grid: the flags that say how slices are coded, the slices, and the last flag (H.266
 // 7.3.2.5).
 ghost use Rattle.std.specs.Prelude.{◌≡◌};
-ghost use Rattle.bit_writer.specs.Writing.{sink_over};
+ghost use Rattle.bit_writer.specs.Written.{written, ended};
 ghost use Rattle.grid_sizes.specs.Fronts.{grid_in};
 ghost use Rattle.pps_syntax.specs.SliceTables.{slices_from};
-ghost use Rattle.pps_tables.specs.Parameters.{slices_before};
+ghost use Rattle.syntax.specs.Elements.{is_set};
+ghost use Rattle.pps_tables.specs.Lent.{slices_of};
 ghost use Rattle.pps_syntax.specs.PartitionSyntax.{several};
 ghost use Rattle.pps_put_partition.specs.Puts.{flags_put, slices_put, rest_put};
 ghost use Rattle.pps_put_partition.specs.Rest.{flags_of};
 
 use super::flags::{put_flag_if, put_num_slices, put_rect};
-use bit_writer::{Sink, demand};
+use bit_writer::{BitWriter, test};
 use grid_sizes::GridSizes;
 use pps_put_slices::put_rect_slices;
 use pps_record::VvcPpsPartition;
-use pps_tables::ENTRY_LEN;
+use pps_tables::SliceTables;
+use refusal::Refusal;
 use slice_loop::SliceIdx;
 use tables::places::at_most;
 use tile_sizes::{MAX_TILE_COLUMNS, MAX_TILES};
 
 // The grid has more than one tile.
-fn several_tiles(sizes: GridSizes) -> bool
-    ensures { result ≡ several (grid_in sizes) }
+fn several_tiles(grid: &GridSizes) -> bool
+    ensures { result ≡ several (grid_in grid.now) }
 {
-    let columns = at_most(sizes.num_tile_columns, MAX_TILE_COLUMNS as usize);
-    let rows = at_most(sizes.num_tile_rows, MAX_TILES as usize);
+    let columns = at_most(grid.num_tile_columns, MAX_TILE_COLUMNS as usize);
+    let rows = at_most(grid.num_tile_rows, MAX_TILES as usize);
     rows as u64 * columns as u64 > 1
 }
 
-fn put_flags(w: Sink, out: &mut [u8], several: bool, p: VvcPpsPartition) -> Sink
-    ensures { sink_over result out.new ≡ flags_put several (flags_of p) (sink_over w out.old) }
+fn put_flags(
+    w: &mut BitWriter,
+    out: &mut [u8],
+    several: bool,
+    p: &VvcPpsPartition,
+) -> Result<(), Refusal>
+    ensures { ended w.new out.new result ≡ flags_put several (flags_of p.now) (written w.old out.old) }
 {
     let rect = p.pps_rect_slice_flag;
     let coded = (rect != 0) & (p.pps_single_slice_per_subpic_flag == 0);
     let n = p.pps_num_slices_in_pic_minus1;
-    let a = put_flag_if(w, out, several, p.pps_loop_filter_across_tiles_enabled_flag);
-    let b = put_rect(a, out, several, rect);
-    let c = put_flag_if(b, out, rect != 0, p.pps_single_slice_per_subpic_flag);
-    let d = put_num_slices(c, out, coded, n);
-    put_flag_if(d, out, coded & (n > 1), p.pps_tile_idx_delta_present_flag)
+    put_flag_if(w, out, several, p.pps_loop_filter_across_tiles_enabled_flag);
+    put_rect(w, out, several, rect)?;
+    put_flag_if(w, out, rect != 0, p.pps_single_slice_per_subpic_flag);
+    put_num_slices(w, out, coded, n)?;
+    put_flag_if(w, out, coded & (n > 1), p.pps_tile_idx_delta_present_flag);
+    Ok(())
 }
 
 // The slices, where they are coded; 26 for entries where they are not.
 fn put_coded_slices(
-    w: Sink,
+    w: &mut BitWriter,
     out: &mut [u8],
     coded: bool,
-    sizes: GridSizes,
-    deltas_coded: bool,
-    n: u32,
-    count: u32,
-    entries: &[[u32; ENTRY_LEN]],
-    split_heights: &[u32],
-) -> Sink
-    ensures { let slices = slices_from (slices_before entries split_heights) 0 0 count in
-        sink_over result out.new
-        ≡ slices_put (grid_in sizes) coded deltas_coded n slices (sink_over w out.old) }
+    grid: &GridSizes,
+    p: &VvcPpsPartition,
+    slices: SliceTables<'_>,
+) -> Result<(), Refusal>
+    ensures { let entries = slices_from (slices_of slices.entry) 0 0 p.now.num_rect_slices in
+        let deltas = is_set p.now.pps_tile_idx_delta_present_flag in
+        ended w.new out.new result
+        ≡ slices_put (grid_in grid.now) coded deltas p.now.pps_num_slices_in_pic_minus1 entries (written w.old out.old) }
 {
-    if coded {
-        let last = SliceIdx(n);
-        return put_rect_slices(
-            w,
-            out,
-            sizes,
-            deltas_coded,
-            last,
-            count,
-            entries,
-            split_heights,
-        );
+    if !coded {
+        return test(p.num_rect_slices == 0, Refusal::Contradiction);
     }
-    demand(w, count == 0, 26)
+    put_rect_slices(
+        w,
+        out,
+        grid,
+        p.pps_tile_idx_delta_present_flag != 0,
+        SliceIdx(p.pps_num_slices_in_pic_minus1),
+        p.num_rect_slices,
+        slices,
+    )
 }
 
 // All that stands behind the grid.
 pub fn put_slicing(
-    w: Sink,
+    w: &mut BitWriter,
     out: &mut [u8],
-    sizes: GridSizes,
-    p: VvcPpsPartition,
-    entries: &[[u32; ENTRY_LEN]],
-    split_heights: &[u32],
-) -> Sink
-    ensures { let g = grid_in sizes in
-        let slices = slices_from (slices_before entries split_heights) 0 0 p.num_rect_slices in
-        sink_over result out.new
-        ≡ rest_put g (several g) (flags_of p) slices p.pps_loop_filter_across_slices_enabled_flag
-        (sink_over w out.old) }
+    grid: &GridSizes,
+    p: &VvcPpsPartition,
+    slices: SliceTables<'_>,
+) -> Result<(), Refusal>
+    ensures { let g = grid_in grid.now in
+        let entries = slices_from (slices_of slices.entry) 0 0 p.now.num_rect_slices in
+        ended w.new out.new result
+        ≡ rest_put g (several g) (flags_of p.now) entries p.now.pps_loop_filter_across_slices_enabled_flag
+        (written w.old out.old) }
 {
     let coded = (p.pps_rect_slice_flag != 0) & (p.pps_single_slice_per_subpic_flag == 0);
-    let n = p.pps_num_slices_in_pic_minus1;
-    let several = several_tiles(sizes);
-    let f = put_flags(w, out, several, p);
-    let s = put_coded_slices(
-        f,
-        out,
-        coded,
-        sizes,
-        p.pps_tile_idx_delta_present_flag != 0,
-        n,
-        p.num_rect_slices,
-        entries,
-        split_heights,
-    );
-    let one = coded & (n == 0);
-    put_flag_if(s, out, !one, p.pps_loop_filter_across_slices_enabled_flag)
+    let one = coded & (p.pps_num_slices_in_pic_minus1 == 0);
+    put_flags(w, out, several_tiles(grid), p)?;
+    put_coded_slices(w, out, coded, grid, p, slices)?;
+    put_flag_if(w, out, !one, p.pps_loop_filter_across_slices_enabled_flag);
+    Ok(())
 }

@@ -1,9 +1,12 @@
 -- The extension bits as they are put.
-use Rattle.std.specs.Prelude.{ℕ, zero, suc, ◌+◌, ◌-◌, ◌^◌, ◌≤◌, ◌<◌, ◌≡◌, List, [], ◌∷◌, Bool, true, false, eqb, length, get_or}
+use Rattle.std.specs.Prelude.{ℕ, zero, suc, ◌+◌, ◌-◌, ◌^◌, ◌≤◌, ◌<◌, ◌≡◌, List, [], ◌∷◌, ◌++◌, true, false, eqb, length, get_or}
 use Rattle.std.proofs.Common.{sym, ap, ◌∙◌, add-zero, arith, ne_eqb}
 use Rattle.codes.specs.Bytes.{bit_at, bit_past, bit_list, bit_list-length}
 use Rattle.codes.specs.Symbols.{putting, check}
-use Rattle.bit_writer.specs.Writing.{Writing, play, play_then}
+use Rattle.bit_writer.specs.Writing.{Writing}
+use Rattle.bit_writer.specs.Stop.{play_on}
+use Rattle.pps_record.specs.declared.VvcPps.{VvcPps}
+use Rattle.pps_syntax.specs.FromRecord.{extension_from}
 use Rattle.pps_syntax.specs.Written.{end_in_one, extension_symbols}
 
 -- the last of n + 1 bits
@@ -31,11 +34,12 @@ pub ends-far : (s : List ℕ) (at n : ℕ) → 0 < n → 2 ^ 64 ≤ at + (n - 1)
 ends-far s at n l h = ends_by s at n {b = 0} l (sym (bit_past s (at + (n - 1)) (omega arith)))
 
 -- ---- with the flag, and without it
-pub extension-none : (w : Writing) (flag : ℕ) (s : List ℕ) (at n : ℕ) {x : Writing} → flag ≡ 0 → x ≡ play w (check (eqb n 0) 26) → x ≡ play w (extension_symbols flag (bit_list s at n))
-unfolding extension_symbols
-extension-none w flag s at n e h = h ∙ rw (e, bit_list-length s at n)
+pub extension-none : (w : Writing) (flag : ℕ) (r : VvcPps) (s : List ℕ) {x : Writing} → flag ≡ 0 → x ≡ play_on w (check (eqb r.pps_extension_data_bits 0) 26) → x ≡ play_on w (extension_symbols flag (extension_from r s))
+unfolding extension_symbols extension_from
+extension-none w flag r s e h = h ∙ rw (e, bit_list-length s r.pps_extension_data_first_bit r.pps_extension_data_bits)
 
-pub extension-put : (w : Writing) (flag : ℕ) (s : List ℕ) (at n : ℕ) {ok : Bool} {x y : Writing} → (flag ≡ 0 → ⊥) → ok ≡ end_in_one (bit_list s at n) → x ≡ play w (check ok 28)
-    → y ≡ play x (putting (bit_list s at n)) → y ≡ play w (extension_symbols flag (bit_list s at n))
-unfolding extension_symbols
-extension-put w flag s at n f e p q = play_then w _ _ p q ∙ rw (ne_eqb flag 0 (λ z. f z), e)
+pub extension-some : (w : Writing) (flag : ℕ) (r : VvcPps) (s : List ℕ) {x : Writing} → (flag ≡ 0 → ⊥)
+    → x ≡ play_on w (check (end_in_one (bit_list s r.pps_extension_data_first_bit r.pps_extension_data_bits)) 28 ++ putting (bit_list s r.pps_extension_data_first_bit r.pps_extension_data_bits))
+    → x ≡ play_on w (extension_symbols flag (extension_from r s))
+unfolding extension_symbols extension_from
+extension-some w flag r s f h = rw (ne_eqb flag 0 (λ z. f z)) h

@@ -1,11 +1,7 @@
 -- The group of the reference indices out of the record. The machine holds its signed field as bits; q is what they spell.
-use Rattle.std.specs.Prelude.{◌≡◌, ℤ}
-use Rattle.std.proofs.Common.{ap, ◌∙◌}
-use Rattle.bit_writer.specs.Writing.{Writing, play}
+use Rattle.std.specs.Prelude.{ℤ}
 use Rattle.pps_record.specs.declared.VvcPps.{VvcPps}
 use Rattle.pps_record.specs.declared.groups.References.{References}
-use Rattle.pps_syntax.specs.References.{references}
-use Rattle.syntax.specs.Syntax.{symbols_for}
 
 abbrev pub references_with : VvcPps → ℤ → References
 references_with r q =
@@ -21,7 +17,3 @@ references_with r q =
       pps_init_qp_minus26 = q;
       pps_cu_qp_delta_enabled_flag = r.pps_cu_qp_delta_enabled_flag;
     }
-
-pub references-put : (w : Writing) (r : VvcPps) (q : ℤ) {x : Writing} → q ≡ r.pps_init_qp_minus26 → x ≡ play w (symbols_for references (references_with r q))
-    → x ≡ play w (symbols_for references (references_with r r.pps_init_qp_minus26))
-references-put w r q e h = h ∙ ap (λ (z : ℤ). play w (symbols_for references (references_with r z))) e

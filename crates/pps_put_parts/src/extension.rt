@@ -1,10 +1,14 @@
 // The extension bits.
 ghost use Rattle.std.specs.Prelude.{◌≡◌};
 ghost use Rattle.codes.specs.Bytes.{bit_list};
-ghost use Rattle.bit_writer.specs.Writing.{sink_over, play};
+ghost use Rattle.bit_writer.specs.Stop.{play_on};
+ghost use Rattle.bit_writer.specs.Written.{written, ended};
+ghost use Rattle.pps_syntax.specs.FromRecord.{extension_from};
 ghost use Rattle.pps_syntax.specs.Written.{end_in_one, extension_symbols};
 
-use bit_writer::Sink;
+use bit_writer::{BitWriter, test};
+use pps_record::VvcPps;
+use refusal::Refusal;
 
 // Whether the last of `count` bits from bit `first` on is 1, or there is none.
 fn end_in_one(bytes: &[u8], first: usize, count: usize) -> bool
@@ -13,29 +17,32 @@ fn end_in_one(bytes: &[u8], first: usize, count: usize) -> bool
     if count == 0 {
         return true;
     }
-    let more = count - 1;
-    if first > 0xffff_ffff_ffff_ffff - more {
-        return false;
+    match first.checked_add(count - 1) {
+        Some(last) => bit_reader::bit_at(bytes, last) == 1,
+        None => false,
     }
-    bit_reader::bit_at(bytes, first + more) == 1
 }
 
-// `count` bits of `bytes` from bit `first` on: 28 where the last is 0, 26 for any without the flag.
+// The record's extension bits out of `bytes`: they end in 1, and without the flag there are none.
 pub fn put_extension(
-    w: Sink,
+    w: &mut BitWriter,
     out: &mut [u8],
-    flag: u8,
+    r: &VvcPps,
     bytes: &[u8],
-    first: usize,
-    count: usize,
-) -> Sink
-    ensures { sink_over result out.new
-        ≡ play (sink_over w out.old) (extension_symbols flag (bit_list bytes.now first count)) }
+) -> Result<(), Refusal>
+    ensures { ended w.new out.new result
+        ≡ play_on (written w.old out.old)
+        (extension_symbols r.now.pps_extension_flag (extension_from r.now bytes.now)) }
 {
-    if flag == 0 {
-        return bit_writer::demand(w, count == 0, 26);
+    let first = r.pps_extension_data_first_bit;
+    let count = r.pps_extension_data_bits;
+    if r.pps_extension_flag == 0 {
+        return test(count == 0, Refusal::Contradiction);
     }
-    let ok = end_in_one(bytes, first, count);
-    let a = bit_writer::demand(w, ok, 28);
-    bit_writer::copy::put_copy(a, out, bytes, first, count)
+    test(
+        end_in_one(bytes, first, count),
+        Refusal::ExtensionEndsInZero,
+    )?;
+    w.put_copy(out, bytes, first, count);
+    Ok(())
 }

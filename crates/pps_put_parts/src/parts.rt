@@ -1,11 +1,12 @@
 // The two parts of a set around its partition block.
 ghost use Rattle.std.specs.Prelude.{◌≡◌};
-ghost use Rattle.bit_writer.specs.Writing.{sink_over, play};
+ghost use Rattle.bit_writer.specs.Stop.{play_on};
+ghost use Rattle.bit_writer.specs.Written.{written, ended};
 ghost use Rattle.syntax.specs.Syntax.{symbols_for};
 ghost use Rattle.pps_syntax.specs.FromRecord.{front_from, back_from};
 ghost use Rattle.pps_syntax.specs.Pps.{front, back};
 
-use bit_writer::Sink;
+use bit_writer::BitWriter;
 use pps_put::{
     put_conf_win, put_head, put_kind, put_picture_header, put_references, put_scaling_win,
 };
@@ -14,11 +15,17 @@ use pps_put_blocks::deblocking::put_deblocking;
 use pps_put_blocks::subpic_ids::put_subpic_ids;
 use pps_record::groups::{Head, PictureHeaderFlags, PictureKind, References};
 use pps_record::{VvcPps, VvcQpOffsets};
+use refusal::Refusal;
 
 // What stands before the block.
-pub fn put_front(w: Sink, out: &mut [u8], r: VvcPps, subpic_ids: &[u32]) -> Sink
-    ensures { sink_over result out.new
-        ≡ play (sink_over w out.old) (symbols_for front (front_from r subpic_ids.now)) }
+pub fn put_front(
+    w: &mut BitWriter,
+    out: &mut [u8],
+    r: &VvcPps,
+    subpic_ids: &[u32],
+) -> Result<(), Refusal>
+    ensures { ended w.new out.new result
+        ≡ play_on (written w.old out.old) (symbols_for front (front_from r.now subpic_ids.now)) }
 {
     let head = Head {
         pps_pic_parameter_set_id: r.pps_pic_parameter_set_id,
@@ -27,31 +34,29 @@ pub fn put_front(w: Sink, out: &mut [u8], r: VvcPps, subpic_ids: &[u32]) -> Sink
         pps_pic_width_in_luma_samples: r.pps_pic_width_in_luma_samples,
         pps_pic_height_in_luma_samples: r.pps_pic_height_in_luma_samples,
     };
-    let conf_win = r.pps_conf_win_offsets;
-    let scaling_win = r.pps_scaling_win_offsets;
     let kind = PictureKind {
         pps_output_flag_present_flag: r.pps_output_flag_present_flag,
         pps_no_pic_partition_flag: r.pps_no_pic_partition_flag,
     };
     let partitioned = r.pps_no_pic_partition_flag == 0;
-    let mapping = r.subpic_id_mapping;
-    let a = put_head(w, out, head);
-    let b = put_conf_win(a, out, conf_win);
-    let c = put_scaling_win(b, out, scaling_win);
-    let d = put_kind(c, out, kind);
-    put_subpic_ids(d, out, partitioned, mapping, subpic_ids)
+    put_head(w, out, &head)?;
+    put_conf_win(w, out, &r.pps_conf_win_offsets)?;
+    put_scaling_win(w, out, &r.pps_scaling_win_offsets)?;
+    put_kind(w, out, &kind);
+    put_subpic_ids(w, out, partitioned, &r.subpic_id_mapping, subpic_ids)
 }
 
 // What stands behind it, up to the extension bits.
 pub fn put_back(
-    w: Sink,
+    w: &mut BitWriter,
     out: &mut [u8],
     partitioned: bool,
-    r: VvcPps,
-    triples: [VvcQpOffsets; 6],
-) -> Sink
-    ensures { sink_over result out.new
-        ≡ play (sink_over w out.old) (symbols_for (back partitioned) (back_from r triples)) }
+    r: &VvcPps,
+    triples: &[VvcQpOffsets; 6],
+) -> Result<(), Refusal>
+    ensures { ended w.new out.new result
+        ≡ play_on (written w.old out.old)
+        (symbols_for (back partitioned) (back_from r.now triples.now)) }
 {
     let references = References {
         pps_cabac_init_present_flag: r.pps_cabac_init_present_flag,
@@ -65,9 +70,6 @@ pub fn put_back(
         pps_init_qp_minus26: r.pps_init_qp_minus26,
         pps_cu_qp_delta_enabled_flag: r.pps_cu_qp_delta_enabled_flag,
     };
-    let chroma = r.chroma_tool_offsets;
-    let with_chroma = chroma.present != 0;
-    let deblocking = r.deblocking;
     let weighted = (r.pps_weighted_pred_flag != 0) | (r.pps_weighted_bipred_flag != 0);
     let flags = PictureHeaderFlags {
         pps_rpl_info_in_ph_flag: r.pps_rpl_info_in_ph_flag,
@@ -79,8 +81,10 @@ pub fn put_back(
         pps_slice_header_extension_present_flag: r.pps_slice_header_extension_present_flag,
         pps_extension_flag: r.pps_extension_flag,
     };
-    let a = put_references(w, out, references);
-    let b = put_chroma(a, out, chroma, triples);
-    let c = put_deblocking(b, out, partitioned, with_chroma, deblocking);
-    put_picture_header(c, out, partitioned, weighted, flags)
+    let with_chroma = r.chroma_tool_offsets.present != 0;
+    put_references(w, out, &references)?;
+    put_chroma(w, out, &r.chroma_tool_offsets, triples)?;
+    put_deblocking(w, out, partitioned, with_chroma, &r.deblocking)?;
+    put_picture_header(w, out, partitioned, weighted, &flags);
+    Ok(())
 }

@@ -8,7 +8,7 @@ use Rattle.std.proofs.Math.Nat.{sub-zero}
 use native.Mathlib.Omega.{arith}
 use Rattle.std.proofs.lemmas.Bool.{lt-leb}
 use Rattle.codes.specs.Symbols.{Symbol, check, check-true}
-use Rattle.bit_writer.specs.Writing.{Writing, play}
+use Rattle.bit_writer.specs.Writing.{Writing}
 use Rattle.partition.specs.Entry.{Position, first_position}
 use Rattle.partition.specs.Grid.{Grid}
 use Rattle.partition.specs.Walk.{onward}
@@ -17,12 +17,9 @@ use Rattle.syntax.specs.Lists.{walk}
 use Rattle.syntax.specs.Syntax.{symbols_for}
 use Rattle.pps_syntax.specs.SliceSyntax.{RectSlice, entry_of, rect_slice, rect_slices}
 use Rattle.pps_syntax.specs.SliceTables.{SliceTables, slice_at, slices_from, split_count}
-use Rattle.pps_lent.specs.Tables.{split_tables, same_count}
 use Rattle.pps_syntax.specs.WalkAccepted.{turns_left, moves-on}
 use Rattle.slice_loop.specs.Loop.{position, Follows}
-use Rattle.pps_put_slices.specs.Stop.{play_on, on-append, on-refused}
-use Rattle.pps_put_slices.specs.StopSteps.{tested}
-use Rattle.pps_put_slices.specs.EntryPut.{EntryPut}
+use Rattle.bit_writer.specs.Stop.{play_on, on-append, on-refused}
 
 module _ (g : Grid) (deltas : Bool) (N : ℕ) where
   -- ---- the turns of the loop
@@ -88,10 +85,10 @@ module _ {g : Grid} {deltas : Bool} {N : ℕ} {t : SliceTables} {count : ℕ} {w
   rest = slices_from t i H.place (count - i)
 
   -- behind slice N all entries are put
-  pub held-ends : {v : Writing} → N ≤ slice → v ≡ play w (check (leb count i) 26) → v ≡ whole_loop g deltas N t count w₀
+  pub held-ends : {v : Writing} → N ≤ slice → v ≡ play_on w (check (leb count i) 26) → v ≡ whole_loop g deltas N t count w₀
   held-ends {v} h e =
       let over : ltb H.at.slice N ≡ false = le-ltb H.at.slice N (omega (arith, H.follows.slice_is)) in
-      tested w 26 (none_left count i) e ∙ ap (play_on w) (sym (turns-end g deltas N (N - i) H.at rest over ∙ turns-over g deltas N H.at t i H.place (count - i))) ∙ H.left
+      e ∙ ap (λ (b : Bool). play_on w (check b 26)) (none_left count i) ∙ ap (play_on w) (sym (turns-end g deltas N (N - i) H.at rest over ∙ turns-over g deltas N H.at t i H.place (count - i))) ∙ H.left
 
   module _ (go : slice < N) where
     on : ltb H.at.slice N ≡ true
@@ -104,11 +101,11 @@ module _ {g : Grid} {deltas : Bool} {N : ℕ} {t : SliceTables} {count : ℕ} {w
     one_less = omega (arith, H.few, H.follows.slice_is)
 
     -- the entries end too early
-    pub held-short : {v : Writing} → count ≤ i → v ≡ play w (check false 26) → v ≡ whole_loop g deltas N t count w₀
+    pub held-short : {v : Writing} → count ≤ i → v ≡ play_on w (check false 26) → v ≡ whole_loop g deltas N t count w₀
     unfolding slices_from
     held-short {v} h e =
         let none : count - i ≡ 0 = omega arith in
-        tested w 26 refl e ∙ ap (play_on w) (sym (rw (one_less, none) (turns-short g deltas N fewer H.at on))) ∙ H.left
+        e ∙ ap (play_on w) (sym (rw (one_less, none) (turns-short g deltas N fewer H.at on))) ∙ H.left
 
     -- where the loop stands is where the description does
     here : position slice tile H.at.preceding_height_minus1 ≡ H.at
@@ -117,7 +114,8 @@ module _ {g : Grid} {deltas : Bool} {N : ℕ} {t : SliceTables} {count : ℕ} {w
         let l : H.at.slice < N = omega arith in
         rw (e, H.follows.tile_is l)
 
-    module _ (there : i < count) {v : Writing} {slice' tile' : ℕ} (E : EntryPut g deltas N (position slice tile H.at.preceding_height_minus1) (slice_at t i H.place) w v slice' tile') where
+    module _ (there : i < count) {v : Writing}
+        (E : v ≡ play_on w (symbols_for (rect_slice g deltas N (position slice tile H.at.preceding_height_minus1)) (slice_at t i H.place))) where
       abbrev next : Position
       next = onward g deltas H.at (entry_of (slice_at t i H.place))
 
@@ -125,7 +123,7 @@ module _ {g : Grid} {deltas : Bool} {N : ℕ} {t : SliceTables} {count : ℕ} {w
       later = (turns_left g deltas N fewer next).symbols (slices_from t (i + 1) (H.place + split_count t i) (count - (i + 1)))
 
       put : v ≡ play_on w (symbols_for (rect_slice g deltas N H.at) (slice_at t i H.place))
-      put = E.put ∙ ap (λ (k : Position). play_on w (symbols_for (rect_slice g deltas N k) (slice_at t i H.place))) here
+      put = E ∙ ap (λ (k : Position). play_on w (symbols_for (rect_slice g deltas N k) (slice_at t i H.place))) here
 
       left-more : play_on v later ≡ whole_loop g deltas N t count w₀
       left-more =
@@ -138,23 +136,31 @@ module _ {g : Grid} {deltas : Bool} {N : ℕ} {t : SliceTables} {count : ℕ} {w
       pub held-stops : (v.sink.refused ≡ 0 → ⊥) → v ≡ whole_loop g deltas N t count w₀
       held-stops h = sym (on-refused v later h) ∙ left-more
 
-      pub held_more : {to n : ℕ} → v.sink.refused ≡ 0 → n ≡ split_count (split_tables t.entries) i → to ≡ min (length t.split_heights) (from + n)
-          → Held g deltas N t count w₀ v slice' tile' (i + 1) to
-      held_more z e q =
+      pub held_more : {slice' tile' to : ℕ} → Follows N slice' tile' (onward g deltas (position slice tile H.at.preceding_height_minus1) (entry_of (slice_at t i H.place)))
+          → to ≡ min (length t.split_heights) (H.place + split_count t i) → Held g deltas N t count w₀ v slice' tile' (i + 1) to
+      held_more {slice'} {tile'} f q =
           let moves = moves-on g deltas H.at (entry_of (slice_at t i H.place)) in
           record {
             at = next;
-            follows = subst (λ (k : Position). Follows N slice' tile' (onward g deltas k (entry_of (slice_at t i H.place)))) here (E.follows z);
+            follows = subst (λ (k : Position). Follows N slice' tile' (onward g deltas k (entry_of (slice_at t i H.place)))) here f;
             few = omega (arith, moves, H.few);
             within = omega (arith, H.few, H.follows.slice_is);
             place = H.place + split_count t i;
-            place_is = omega (arith, H.place_is, e, same_count t i);
+            place_is = q;
             left = left-more;
           }
 
-  -- the numbers of the loop stay small
-  pub held_small : slice < N → i < N
-  held_small go = omega (arith, H.few, H.follows.slice_is)
+  -- entries that are left over
+  pub held-left : {v : Writing} → i < count → N ≤ slice → v ≡ play_on w (check false 26) → v ≡ whole_loop g deltas N t count w₀
+  held-left h k e = held-ends k (e ∙ ap (λ (b : Bool). play_on w (check b 26)) (sym (lt-leb count i h)))
+
+  -- behind the last entry
+  pub held-over : {v : Writing} → count ≤ i → v ≡ play_on w (check (leb N slice) 26) → v ≡ whole_loop g deltas N t count w₀
+  held-over {v} h = split (leb N slice) refl
+    where
+      split : (b : Bool) → leb N slice ≡ b → v ≡ play_on w (check b 26) → v ≡ whole_loop g deltas N t count w₀
+      split true q e = held-ends (leb-true N slice q) (e ∙ ap (λ (b : Bool). play_on w (check b 26)) (sym (le-leb count i h)))
+      split false q e = held-short (leb-false N slice q) h e
 
 -- over the same grid
 pub in_grid : {g h : Grid} (deltas : Bool) (N : ℕ) (t : SliceTables) (count : ℕ) (w : Writing) {v : Writing} → g ≡ h

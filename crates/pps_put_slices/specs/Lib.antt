@@ -1,9 +1,5 @@
-pub mod Stop
-pub mod StopSteps
 pub mod Sizes
-pub mod Signed
 pub mod Parts
-pub mod PartsMade
 pub mod Moved
 pub mod EntryPut
 pub mod Tabled

@@ -17,8 +17,9 @@ use Rattle.syntax.proofs.Elements.{ue_if, absent, presence}
 use Rattle.syntax.specs.Lists.{many, none}
 use Rattle.syntax.specs.Syntax.{symbols_for, ◌for◌}
 use Rattle.pps_syntax.specs.SliceSyntax.{RectSlice, rect_slice, slice_height, slice_split, slice_move}
-use Rattle.pps_put_slices.specs.Stop.{play_on, on_none, on-append}
-use Rattle.pps_put_slices.specs.StopSteps.{stops-done, stops, stops-test, stops-both, stops_past, stops-or}
+use Rattle.bit_writer.specs.Stop.{play_on, on_none, on-append}
+use Rattle.syntax.specs.StopSteps.{stops-done, stops, stops-test, stops-both, stops_past}
+use Rattle.syntax.proofs.StopSteps.{stops-or}
 use Rattle.pps_put_slices.specs.Sizes.{size_symbols, sizes_symbols, many-sizes}
 
 -- width and height: both are tested before either is put

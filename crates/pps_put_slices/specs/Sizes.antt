@@ -9,7 +9,7 @@ use Rattle.codes.specs.Symbols.{Symbol, check}
 use Rattle.bit_writer.specs.Writing.{Writing}
 use Rattle.syntax.specs.Elements.{ue, limited}
 use Rattle.syntax.specs.Lists.{many}
-use Rattle.pps_put_slices.specs.Stop.{play_on, on_none, on-append}
+use Rattle.bit_writer.specs.Stop.{play_on, on_none, on-append}
 
 -- one of them, refused with n where it is not below the limit
 abbrev pub size_symbols : ℕ → ℕ → ℕ → List Symbol

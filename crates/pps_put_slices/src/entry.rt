@@ -1,19 +1,20 @@
 // One entry of the slice loop (H.266 7.3.2.5).
-ghost use Rattle.std.specs.Prelude.{ℕ, ◌*◌, ◌≤◌, length};
+ghost use Rattle.std.specs.Prelude.{◌≡◌, ℕ, ◌*◌, ◌≤◌, length};
 ghost use Rattle.partition.specs.Grid.{Grid};
-ghost use Rattle.bit_writer.specs.Writing.{sink_over};
+ghost use Rattle.bit_writer.specs.Written.{written, ended};
 ghost use Rattle.slice_loop.specs.Loop.{LoopOver, position};
 ghost use Rattle.pps_put_slices.specs.EntryPut.{rect_slice_of, EntryPut};
 
-use super::parts::{SlicePut, put_move, put_size_in_tiles, put_split};
-use bit_writer::Sink;
+use super::parts::{NextSlice, put_move, put_size_in_tiles, put_split};
+use bit_writer::BitWriter;
 use pps_tables::RectSliceEntry;
+use refusal::Refusal;
 use slice_loop::{SliceIdx, SliceLoopCtx, TileIdx};
 
 // The entry at a slice index and a tile, with its split heights. An uncoded height is not looked at, but for the grid:
 // the walk goes by it.
 pub fn put_rect_slice(
-    w: Sink,
+    w: &mut BitWriter,
     out: &mut [u8],
     row_heights: &[u32],
     ctx: SliceLoopCtx,
@@ -21,28 +22,16 @@ pub fn put_rect_slice(
     tile: TileIdx,
     e: RectSliceEntry,
     heights: &[u32],
-) -> SlicePut
+) -> Result<NextSlice, Refusal>
     requires { (length heights.now ≤ 4294967295) × (ctx.num_tile_rows * ctx.num_tile_columns ≤ 4294967295) }
     ensures { (g : Grid) (preceding : ℕ) → LoopOver ctx row_heights.now g
         → EntryPut g ctx.delta_present ctx.num_slices_minus1.0 (position slice.0 tile.0 preceding)
         (rect_slice_of e heights.now)
-        (sink_over w out.old) (sink_over result.next out.new) result.slice.0 result.tile.0 }
+        (written w.old out.old) (ended w.new out.new result) result }
 {
-    let a = put_size_in_tiles(w, out, ctx, tile, e.width, e.height);
+    put_size_in_tiles(w, out, ctx, tile, e.width, e.height)?;
     let row = ctx.row_height(row_heights, tile);
     let split = SliceLoopCtx::exp_block(e.width, e.height, row);
-    let s = put_split(a, out, ctx, slice, row, split, e.split_present, heights);
-    let last = s.last;
-    let next = s.next;
-    put_move(
-        next,
-        out,
-        ctx,
-        tile,
-        last,
-        e.width,
-        e.height,
-        e.delta_present,
-        e.delta,
-    )
+    let last = put_split(w, out, ctx, slice, row, split, e.split_present, heights)?;
+    put_move(w, out, ctx, tile, last, e)
 }

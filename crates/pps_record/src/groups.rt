@@ -1,6 +1,6 @@
 // The fields of the record that stand in no block of their own, in the groups in which they are coded.
 
-#[derive(Clone, Copy)]
+#[derive(Clone, Copy, PartialEq, Eq, Debug)]
 pub struct Head {
     pub pps_pic_parameter_set_id: u8,
     pub pps_seq_parameter_set_id: u8,
@@ -9,13 +9,13 @@ pub struct Head {
     pub pps_pic_height_in_luma_samples: u32,
 }
 
-#[derive(Clone, Copy)]
+#[derive(Clone, Copy, PartialEq, Eq, Debug)]
 pub struct PictureKind {
     pub pps_output_flag_present_flag: u8,
     pub pps_no_pic_partition_flag: u8,
 }
 
-#[derive(Clone, Copy)]
+#[derive(Clone, Copy, PartialEq, Eq, Debug)]
 pub struct References {
     pub pps_cabac_init_present_flag: u8,
     pub pps_num_ref_idx_default_active_minus1_l0: u32,
@@ -29,7 +29,7 @@ pub struct References {
     pub pps_cu_qp_delta_enabled_flag: u8,
 }
 
-#[derive(Clone, Copy)]
+#[derive(Clone, Copy, PartialEq, Eq, Debug)]
 pub struct PictureHeaderFlags {
     pub pps_rpl_info_in_ph_flag: u8,
     pub pps_sao_info_in_ph_flag: u8,

@@ -7,6 +7,8 @@ ghost use Rattle.std.specs.Prelude.{◌≡◌};
 ghost use Rattle.pps_record.specs.Absent.{no_partition};
 ghost use Rattle.pps_record.specs.Ctbs.{ctbs_of};
 
+use refusal::Refusal;
+use slice_loop::CtbCount;
 use tile_sizes::in_ctbs;
 
 pub mod groups;
@@ -14,7 +16,7 @@ pub mod lengths;
 
 // pps_conf_win_offsets
 #[repr(C)]
-#[derive(Clone, Copy)]
+#[derive(Clone, Copy, Default, PartialEq, Eq, Debug)]
 pub struct VvcPpsConfWinOffsets {
     pub present: u8,
     pub pps_conf_win_left_offset: u32,
@@ -25,7 +27,7 @@ pub struct VvcPpsConfWinOffsets {
 
 // pps_scaling_win_offsets
 #[repr(C)]
-#[derive(Clone, Copy)]
+#[derive(Clone, Copy, Default, PartialEq, Eq, Debug)]
 pub struct VvcPpsScalingWinOffsets {
     pub present: u8,
     pub pps_scaling_win_left_offset: i32,
@@ -36,7 +38,7 @@ pub struct VvcPpsScalingWinOffsets {
 
 // The ids are the first num_subpic_ids of their table.
 #[repr(C)]
-#[derive(Clone, Copy)]
+#[derive(Clone, Copy, Default, PartialEq, Eq, Debug)]
 pub struct VvcPpsSubpicIdMapping {
     pub present: u8,
     pub pps_num_subpics_minus1: u32,
@@ -47,7 +49,7 @@ pub struct VvcPpsSubpicIdMapping {
 // The explicit tile sizes and the slice entries are the first so many of their tables; the split heights are taken by
 // the entries in order.
 #[repr(C)]
-#[derive(Clone, Copy)]
+#[derive(Clone, Copy, Default, PartialEq, Eq, Debug)]
 pub struct VvcPpsPartition {
     pub present: u8,
     pub pps_log2_ctu_size_minus5: u8,
@@ -64,12 +66,12 @@ pub struct VvcPpsPartition {
 
 // A triple of the list: cb, cr, joint.
 #[repr(C)]
-#[derive(Clone, Copy)]
+#[derive(Clone, Copy, Default, PartialEq, Eq, Debug)]
 pub struct VvcQpOffsets(pub [i32; 3]);
 
 // The triples of the list are passed beside the record; the joint flag says whether their third offsets are coded.
 #[repr(C)]
-#[derive(Clone, Copy)]
+#[derive(Clone, Copy, Default, PartialEq, Eq, Debug)]
 pub struct VvcPpsChromaToolOffsets {
     pub present: u8,
     pub pps_cb_qp_offset: i32,
@@ -82,7 +84,7 @@ pub struct VvcPpsChromaToolOffsets {
 }
 
 #[repr(C)]
-#[derive(Clone, Copy)]
+#[derive(Clone, Copy, Default, PartialEq, Eq, Debug)]
 pub struct VvcPpsDeblocking {
     pub present: u8,
     pub pps_deblocking_filter_override_enabled_flag: u8,
@@ -98,7 +100,7 @@ pub struct VvcPpsDeblocking {
 
 // Extension bits stay in the bytes that they were read from: their first bit and their number.
 #[repr(C)]
-#[derive(Clone, Copy)]
+#[derive(Clone, Copy, Default, PartialEq, Eq, Debug)]
 pub struct VvcPps {
     pub pps_pic_parameter_set_id: u8,
     pub pps_seq_parameter_set_id: u8,
@@ -135,72 +137,42 @@ pub struct VvcPps {
     pub pps_extension_data_bits: usize,
 }
 
-// A count of CTBs, or the number of a refusal.
-#[derive(Clone, Copy)]
-pub enum Ctbs {
-    Count(u32),
-    Refused(u8),
-}
-
-// A length of a picture in CTBs: 9 where a partition has a CTU size field over 2; blocks of 1,024 samples without a
-// partition.
-fn pic_ctbs(samples: u32, partition_present: u8, log2_ctu_size_minus5: u8) -> Ctbs
-    ensures { result ≡ ctbs_of samples partition_present log2_ctu_size_minus5 }
-{
-    if partition_present == 0 {
-        let blocks = in_ctbs(samples, 5);
-        return Ctbs::Count(blocks.0);
-    }
-    if log2_ctu_size_minus5 > 2 {
-        return Ctbs::Refused(9);
-    }
-    let ctbs = in_ctbs(samples, log2_ctu_size_minus5);
-    Ctbs::Count(ctbs.0)
-}
-
 impl VvcPpsPartition {
     // The block of a set that has none: zeros.
+    #[tactic(auto, unfolding(crate::specs::Absent::no_partition))]
     pub fn absent() -> VvcPpsPartition
         ensures { result ≡ no_partition }
     {
-        VvcPpsPartition {
-            present: 0,
-            pps_log2_ctu_size_minus5: 0,
-            num_tile_column_widths: 0,
-            num_tile_row_heights: 0,
-            pps_loop_filter_across_tiles_enabled_flag: 0,
-            pps_rect_slice_flag: 0,
-            pps_single_slice_per_subpic_flag: 0,
-            pps_num_slices_in_pic_minus1: 0,
-            pps_tile_idx_delta_present_flag: 0,
-            num_rect_slices: 0,
-            pps_loop_filter_across_slices_enabled_flag: 0,
+        VvcPpsPartition::default()
+    }
+
+    // A length of a picture in CTBs: 9 where a partition has a CTU size field over 2; blocks of 1,024 samples without a
+    // partition.
+    fn in_ctbs(&self, samples: u32) -> Result<CtbCount, Refusal>
+        ensures { result ≡ ctbs_of samples self.now.present self.now.pps_log2_ctu_size_minus5 }
+    {
+        if self.present == 0 {
+            return Ok(in_ctbs(samples, 5));
         }
+        if self.pps_log2_ctu_size_minus5 > 2 {
+            return Err(Refusal::CtuSize);
+        }
+        Ok(in_ctbs(samples, self.pps_log2_ctu_size_minus5))
     }
 }
 
 impl VvcPps {
     // PicWidthInCtbsY, from the record's own geometry.
-    pub fn pic_width_in_ctbs(self) -> Ctbs
-        ensures { result ≡ ctbs_of self.pps_pic_width_in_luma_samples self.partition.present self.partition.pps_log2_ctu_size_minus5 }
+    pub fn pic_width_in_ctbs(&self) -> Result<CtbCount, Refusal>
+        ensures { result ≡ ctbs_of self.now.pps_pic_width_in_luma_samples self.now.partition.present self.now.partition.pps_log2_ctu_size_minus5 }
     {
-        let p = self.partition;
-        pic_ctbs(
-            self.pps_pic_width_in_luma_samples,
-            p.present,
-            p.pps_log2_ctu_size_minus5,
-        )
+        self.partition.in_ctbs(self.pps_pic_width_in_luma_samples)
     }
 
     // PicHeightInCtbsY
-    pub fn pic_height_in_ctbs(self) -> Ctbs
-        ensures { result ≡ ctbs_of self.pps_pic_height_in_luma_samples self.partition.present self.partition.pps_log2_ctu_size_minus5 }
+    pub fn pic_height_in_ctbs(&self) -> Result<CtbCount, Refusal>
+        ensures { result ≡ ctbs_of self.now.pps_pic_height_in_luma_samples self.now.partition.present self.now.partition.pps_log2_ctu_size_minus5 }
     {
-        let p = self.partition;
-        pic_ctbs(
-            self.pps_pic_height_in_luma_samples,
-            p.present,
-            p.pps_log2_ctu_size_minus5,
-        )
+        self.partition.in_ctbs(self.pps_pic_height_in_luma_samples)
     }
 }

@@ -12,7 +12,7 @@ use Rattle.codes.specs.Bytes.{bit_list}
 use Rattle.codes.specs.Symbols.{Symbol, check, check-none}
 use Rattle.bit_writer.specs.declared.Sink.{Sink}
 use Rattle.bit_writer.specs.Writing.{Writing, sink_over, fresh, play, play_then, closed}
-use Rattle.pps_put_slices.specs.Stop.{up_to_refusal}
+use Rattle.bit_writer.specs.Stop.{up_to_refusal}
 use Rattle.pps_record.specs.declared.VvcPps.{VvcPps}
 use Rattle.pps_record.specs.declared.VvcPpsPartition.{VvcPpsPartition}
 use Rattle.pps_record.specs.declared.VvcQpOffsets.{VvcQpOffsets}

@@ -10,7 +10,7 @@ use Rattle.syntax.specs.Elements.{or_else}
 use Rattle.syntax.proofs.Elements.{presence}
 use Rattle.syntax.specs.Lists.{many, none}
 use Rattle.syntax.specs.Syntax.{◌>>=◌, symbols_for}
-use Rattle.pps_put_slices.specs.Stop.{up_to_refusal, same-refusal, unrefused-whole}
+use Rattle.bit_writer.specs.Stop.{up_to_refusal, same-refusal, unrefused-whole}
 use Rattle.pps_syntax.specs.PartitionSyntax.{PartitionBlock, partition_element}
 use Rattle.pps_syntax.specs.Pps.{Pps, front, back, pps, partitioned, pic_width, pic_height}
 use Rattle.pps_syntax.specs.Written.{extension_symbols, set_symbols, set_refusal}

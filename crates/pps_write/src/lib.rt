@@ -10,7 +10,7 @@ ghost use Rattle.pps_write.specs.Runs.{counted};
 use nal::ByteCount;
 use pps_lent::lent_fits;
 use pps_record::{VvcPps, VvcQpOffsets};
-use pps_tables::ENTRY_LEN;
+use pps_tables::{ENTRY_LEN, LentTables, SliceTables};
 use set::put_set;
 
 mod block;
@@ -102,14 +102,16 @@ fn write_set(
         wrote result out.new ≡ write_set nal pps triples t extension.now out.old }
 {
     let count = pps.pps_extension_data_bits;
-    let fits = lent_fits(
-        pps,
+    let tables = LentTables {
         subpic_ids,
         tile_column_widths,
         tile_row_heights,
-        entries,
-        split_heights,
-    );
+        slices: SliceTables {
+            entries,
+            split_heights,
+        },
+    };
+    let fits = lent_fits(&pps, tables);
     let inside = (count == 0)
         | bits_inside(pps.pps_extension_data_first_bit, count, extension.len());
     if fits & inside {

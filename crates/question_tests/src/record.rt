@@ -8,7 +8,7 @@ ghost use Rattle.question_tests.specs.Questions.{flag_over1, record_checks};
 use super::tested::{same, tested};
 use pps_lent::lent_fits;
 use pps_record::{VvcPps, VvcPpsPartition};
-use pps_tables::ENTRY_LEN;
+use pps_tables::{ENTRY_LEN, LentTables, SliceTables};
 
 fn flag_over_1(p: VvcPpsPartition) -> bool
     ensures { result ≡ flag_over1 p }
@@ -32,14 +32,16 @@ pub fn record_refusal(
     ensures { let t = before subpic_ids tile_column_widths tile_row_heights entries split_heights in
         result ≡ number_of (first_bad (record_checks pps t)) }
 {
-    let fit = lent_fits(
-        pps,
+    let tables = LentTables {
         subpic_ids,
         tile_column_widths,
         tile_row_heights,
-        entries,
-        split_heights,
-    );
+        slices: SliceTables {
+            entries,
+            split_heights,
+        },
+    };
+    let fit = lent_fits(&pps, tables);
     let p = pps.partition;
     let over = flag_over_1(p);
     let contradicts = same(p.present != 0, pps.pps_no_pic_partition_flag != 0);

@@ -1,8 +1,5 @@
-use Rattle.pps_lent.specs.Tables.{left_start, left_step, left_past, left_end}
+use Rattle.pps_lent.proofs.SplitTotal.{left_step, left_past, left_end}
 use Rattle.pps_lent.proofs.split_total_fits.Goals as goal
-
-pub loop-i-init : goal.loop-i-init
-loop-i-init c = left_start _ _
 
 pub returns-then-left-c : goal.returns-then-left-c
 returns-then-left-c c = left_past _ _ _ _ _ c.split_count-c.ensures c.loop-i-test.true c.if-left-c.true c.loop-i.invariant

@@ -1,9 +1,6 @@
-use Prim.Native.Nat.{◌-◌}
-use Rattle.pps_lent.specs.Tables.{split_tables, Left}
+use Rattle.pps_tables.specs.Lent.{slices_of}
+use Rattle.pps_lent.proofs.SplitTotal.{Left}
 use Rattle.pps_lent.proofs.split_total_fits.Given as goal
 
 abbrev pub invariant-loop-i : goal.invariant-loop-i
-invariant-loop-i l = Left (split_tables l.entries) l.n l.i l.left
-
-abbrev pub decreases-loop-i : goal.decreases-loop-i
-decreases-loop-i l = l.n - l.i
+invariant-loop-i l = Left (slices_of l.fn.slices) l.fn.n l.i l.left

@@ -1,13 +1,20 @@
-use mathlib.Core.Path.{refl}
-use Rattle.std.proofs.Common.{Ok, Err}
-use Rattle.pps_put_partition.specs.Rest.{block-stops, block_goes, block-refused}
+use mathlib.Core.Path.{refl, ◌∙◌}
+use native.Mathlib.Omega.{arith}
+use Rattle.refusal.proofs.Numbers.{number_above0}
+use Rattle.bit_writer.proofs.Ended.{at_err}
+use Rattle.bit_writer.proofs.Steps.{test_failed}
+use Rattle.pps_put_partition.specs.Rest.{tiles-refused, grid-refused, block_goes}
 use Rattle.pps_put_partition.proofs.put_block.Goals as goal
 
-pub returns-in-Err : goal.returns-in-Err
-returns-in-Err c = block-refused _ _ c.args.p _ _ _ _ _ (Err c.in-Err.refusal) c.put_tile_sizes-a.ensures c.in-Err.ensures _ refl c.number.ensures (c.demand.ensures _)
+pub returns-in_err-put_tile_sizes : goal.returns-in_err-put_tile_sizes
+returns-in_err-put_tile_sizes c =
+    at_err _ _ _ _ c.from_residual.ensures.1
+    ∙ tiles-refused _ _ c.args.p.now _ _ _ _ c.in_err-put_tile_sizes.ensures (λ z. absurd (let h = number_above0 c.in_err-put_tile_sizes.field-0.0 in omega arith))
 
-pub returns-then-a-ne0 : goal.returns-then-a-ne0
-returns-then-a-ne0 c = block-stops _ _ c.args.p _ _ _ _ _ (Ok c.in-Ok.sizes) c.put_tile_sizes-a.ensures c.in-Ok.ensures _ refl c.if-a-ne0.true
+pub returns-in_err-grid : goal.returns-in_err-grid
+returns-in_err-grid c =
+    at_err _ _ _ _ c.from_residual-in_err-grid.ensures.1
+    ∙ grid-refused _ _ c.args.p.now _ _ _ _ c.in_ok-put_tile_sizes.ensures c.in_err-grid.field-0.0 c.in_err-grid.ensures (test_failed _ _ _ refl refl)
 
-pub returns-else-a-ne0 : goal.returns-else-a-ne0
-returns-else-a-ne0 c = block_goes _ _ c.args.p _ _ _ _ _ (Ok c.in-Ok.sizes) c.put_tile_sizes-a.ensures c.in-Ok.ensures _ refl c.put_slicing.ensures
+pub returns : goal.returns
+returns c = block_goes _ _ c.args.p.now _ _ _ _ c.in_ok-put_tile_sizes.ensures c.in_ok-grid.grid c.in_ok-grid.ensures c.put_slicing.ensures

@@ -1,65 +1,45 @@
--- One step of the description for each call, the last call first; the call of ue_at_most is two steps, a number and its test.
-use mathlib.Core.Path.{refl, ◌∙◌}
-use native.Mathlib.Omega.{arith}
-use lib.Dec.{leb}
-use mir.Facts.{to_z-of_z}
-use mir.Syntax.{w32}
-use mir.Val.{SFits}
-use Rattle.syntax.specs.ReadSteps.{reads-done, reads, reads-test, reads_past}
+-- One step of the description for each call. A signed value is unchanged by the 32 bits of its field.
+use Rattle.std.proofs.Common.{SFits, to_z-of_z, refl, rules, le-leb}
+use Rattle.std.proofs.lemmas.Bool.{lt-leb}
+use Rattle.std.specs.Int.{w32}
+use Rattle.refusal.specs.Numbers.{number}
+use Rattle.bit_reader.proofs.Gives.{at_exit, holds, holds-none}
 use Rattle.pps_syntax.specs.Chroma.{chroma}
-use Rattle.pps_fields.specs.FieldReads.{byte-field, flag-field, tested-number, tested-behind, tested-small}
-use Rattle.pps_blocks.specs.Triples.{triples-coded, chroma-made}
-use borrow.Author.Rules.{rules}
+use Rattle.syntax.specs.Syntax.{◌>>=◌}
+use Rattle.syntax.proofs.Steps.{follows, ◌⟫◌, past, held, stop, fails, end}
+use Rattle.pps_blocks.specs.Triples.{block_of}
+use Rattle.pps_blocks.proofs.Triples.{triples-coded, triples-refused, block-made}
 use Rattle.pps_blocks.proofs.chroma.read_chroma.Goals as goal
 
-pub counted-count-requires : goal.counted-count-requires
-counted-count-requires c = tested-small _ _ _ (λ v. leb v 5) 21 0 (omega arith) c.ue_at_most-len.ensures
+pub returns-in_err-cb : goal.returns-in_err-cb
+unfolding chroma ◌>>=◌
+returns-in_err-cb c = at_exit c.from_residual.ensures.1 (holds-none block_of (follows chroma (c.flag-present.ensures ⟫ stop c.in_err-cb.ensures)))
+
+pub returns-in_err-cr : goal.returns-in_err-cr
+unfolding chroma ◌>>=◌
+returns-in_err-cr c = at_exit c.from_residual-in_err-cr.ensures.1 (holds-none block_of (follows chroma (c.flag-present.ensures ⟫ c.in_ok-cb.ensures ⟫ stop c.in_err-cr.ensures)))
+
+pub returns-in_err-value : goal.returns-in_err-value
+unfolding chroma ◌>>=◌
+returns-in_err-value c = at_exit c.from_residual-in_err-value.ensures.1 (holds-none block_of (follows chroma (c.flag-present.ensures ⟫ c.in_ok-cb.ensures ⟫ c.in_ok-cr.ensures ⟫ c.flag_or-joint.ensures _ ⟫ stop c.in_err-value.ensures)))
+
+pub returns-in_err-len : goal.returns-in_err-len
+unfolding chroma ◌>>=◌
+returns-in_err-len c = at_exit c.from_residual-in_err-len.ensures.1 (holds-none block_of (follows chroma (c.flag-present.ensures ⟫ c.in_ok-cb.ensures ⟫ c.in_ok-cr.ensures ⟫ c.flag_or-joint.ensures _ ⟫ c.in_ok-value.ensures ⟫ c.flag_or-slice.ensures _ ⟫ c.flag_or-enabled.ensures _ ⟫ past (stop (c.in_err-len.ensures _)))))
+
+pub returns-then-len-gt5 : goal.returns-then-len-gt5
+unfolding chroma ◌>>=◌ number
+returns-then-len-gt5 c = holds-none block_of (follows chroma (c.flag-present.ensures ⟫ c.in_ok-cb.ensures ⟫ c.in_ok-cr.ensures ⟫ c.flag_or-joint.ensures _ ⟫ c.in_ok-value.ensures ⟫ c.flag_or-slice.ensures _ ⟫ c.flag_or-enabled.ensures _ ⟫ past (c.in_ok-len.ensures _ ⟫ fails (lt-leb _ _ c.if-len-gt5.true) refl)))
+
+pub returns-in_err-triples : goal.returns-in_err-triples
+unfolding chroma ◌>>=◌
+returns-in_err-triples c = at_exit c.from_residual-in_err-triples.ensures.1 (holds-none block_of (follows chroma (c.flag-present.ensures ⟫ c.in_ok-cb.ensures ⟫ c.in_ok-cr.ensures ⟫ c.flag_or-joint.ensures _ ⟫ c.in_ok-value.ensures ⟫ c.flag_or-slice.ensures _ ⟫ c.flag_or-enabled.ensures _ ⟫ past (c.in_ok-len.ensures _ ⟫ held (le-leb _ _ c.if-len-gt5.false) (stop (triples-refused _ _ _ c.counted-count.ensures c.in_err-triples.ensures.triples))))))
 
 pub returns : goal.returns
-unfolding chroma
-returns c = let cb : SFits w32 c.offset_or-cb.result.value = search rules in
-    let cr : SFits w32 c.offset_or-cr.result.value = search rules in
-    let value : SFits w32 c.offset_or-value.result.value = search rules in record {
-      value = rw (to_z-of_z cb, to_z-of_z cr, to_z-of_z value) (chroma-made _
-          (reads-done _ _ _
-          ∙ reads _ _ _ _ (triples-coded _ _ _ _ _ _ _ c.counted-count.ensures c.read_triples-list.ensures.next)
-          ∙ reads-test _ _ _ _ _ _ (tested-behind _ _ _ (λ v. leb v 5) 21 0 refl c.ue_at_most-len.ensures)
-          ∙ reads _ _ _ _ (tested-number _ _ _ (λ v. leb v 5) 21 0 0 c.ue_at_most-len.ensures)
-          ∙ reads_past _ _ _ _ _
-          ∙ reads _ _ _ _ (flag-field _ _ _ 0 0 c.flag_or-enabled.ensures)
-          ∙ reads _ _ _ _ (flag-field _ _ _ 0 0 c.flag_or-slice.ensures)
-          ∙ reads _ _ _ _ c.offset_or-value.ensures
-          ∙ reads _ _ _ _ (flag-field _ _ _ 0 0 c.flag_or-joint.ensures)
-          ∙ reads _ _ _ _ c.offset_or-cr.ensures
-          ∙ reads _ _ _ _ c.offset_or-cb.ensures
-          ∙ reads _ _ _ _ (byte-field _ _ 1 c.flag-present.ensures))
-          (c.read_triples-list.ensures.count, c.read_triples-list.ensures.triples)).0;
-      next = (chroma-made _
-          (reads-done _ _ _
-          ∙ reads _ _ _ _ (triples-coded _ _ _ _ _ _ _ c.counted-count.ensures c.read_triples-list.ensures.next)
-          ∙ reads-test _ _ _ _ _ _ (tested-behind _ _ _ (λ v. leb v 5) 21 0 refl c.ue_at_most-len.ensures)
-          ∙ reads _ _ _ _ (tested-number _ _ _ (λ v. leb v 5) 21 0 0 c.ue_at_most-len.ensures)
-          ∙ reads_past _ _ _ _ _
-          ∙ reads _ _ _ _ (flag-field _ _ _ 0 0 c.flag_or-enabled.ensures)
-          ∙ reads _ _ _ _ (flag-field _ _ _ 0 0 c.flag_or-slice.ensures)
-          ∙ reads _ _ _ _ c.offset_or-value.ensures
-          ∙ reads _ _ _ _ (flag-field _ _ _ 0 0 c.flag_or-joint.ensures)
-          ∙ reads _ _ _ _ c.offset_or-cr.ensures
-          ∙ reads _ _ _ _ c.offset_or-cb.ensures
-          ∙ reads _ _ _ _ (byte-field _ _ 1 c.flag-present.ensures))
-          (c.read_triples-list.ensures.count, c.read_triples-list.ensures.triples)).1.0;
-      triples = (chroma-made _
-          (reads-done _ _ _
-          ∙ reads _ _ _ _ (triples-coded _ _ _ _ _ _ _ c.counted-count.ensures c.read_triples-list.ensures.next)
-          ∙ reads-test _ _ _ _ _ _ (tested-behind _ _ _ (λ v. leb v 5) 21 0 refl c.ue_at_most-len.ensures)
-          ∙ reads _ _ _ _ (tested-number _ _ _ (λ v. leb v 5) 21 0 0 c.ue_at_most-len.ensures)
-          ∙ reads_past _ _ _ _ _
-          ∙ reads _ _ _ _ (flag-field _ _ _ 0 0 c.flag_or-enabled.ensures)
-          ∙ reads _ _ _ _ (flag-field _ _ _ 0 0 c.flag_or-slice.ensures)
-          ∙ reads _ _ _ _ c.offset_or-value.ensures
-          ∙ reads _ _ _ _ (flag-field _ _ _ 0 0 c.flag_or-joint.ensures)
-          ∙ reads _ _ _ _ c.offset_or-cr.ensures
-          ∙ reads _ _ _ _ c.offset_or-cb.ensures
-          ∙ reads _ _ _ _ (byte-field _ _ 1 c.flag-present.ensures))
-          (c.read_triples-list.ensures.count, c.read_triples-list.ensures.triples)).1.1;
-    }
+unfolding chroma ◌>>=◌
+returns c = let cb : SFits w32 c.in_ok-cb.cb = search rules in
+    let cr : SFits w32 c.in_ok-cr.cr = search rules in
+    let value : SFits w32 c.in_ok-value.value = search rules in
+    rw (to_z-of_z cb, to_z-of_z cr, to_z-of_z value)
+    (holds block_of (follows chroma (c.flag-present.ensures ⟫ c.in_ok-cb.ensures ⟫ c.in_ok-cr.ensures ⟫ c.flag_or-joint.ensures _ ⟫ c.in_ok-value.ensures ⟫ c.flag_or-slice.ensures _ ⟫ c.flag_or-enabled.ensures _ ⟫ past (c.in_ok-len.ensures _ ⟫ held (le-leb _ _ c.if-len-gt5.false) (triples-coded _ _ _ c.counted-count.ensures c.in_ok-triples.ensures.triples ⟫ end))))
+    (block-made _ c.in_ok-triples.ensures.count c.in_ok-triples.ensures.triples.value))

@@ -1,22 +1,29 @@
--- One step of the description for each call, the last call first. A signed value is unchanged by the 32 bits of its field.
-use mathlib.Core.Path.{◌∙◌}
-use lib.IntN.{pos}
-use mir.Facts.{to_z-of_z}
-use mir.Syntax.{w32}
-use mir.Val.{SFits}
-use Rattle.syntax.specs.ReadSteps.{reads-done, reads}
+-- One step of the description for each call. A signed value is unchanged by the 32 bits of its field.
+use Rattle.std.proofs.Common.{SFits, to_z-of_z, refl, rules}
+use Rattle.std.specs.Int.{w32}
+use Rattle.bit_reader.proofs.Gives.{at_exit, holds, holds-none}
 use Rattle.pps_syntax.specs.Chroma.{triple}
-use Rattle.pps_fields.specs.FieldReads.{offset_always}
-use borrow.Author.Rules.{rules}
+use Rattle.pps_syntax.specs.Record.{offsets_of}
+use Rattle.syntax.specs.Syntax.{◌>>=◌}
+use Rattle.syntax.proofs.Steps.{follows, ◌⟫◌, stop, end}
 use Rattle.pps_blocks.proofs.chroma.read_triple.Goals as goal
 
+pub returns-in_err-cb : goal.returns-in_err-cb
+unfolding triple ◌>>=◌
+returns-in_err-cb c = at_exit c.from_residual.ensures.1 (holds-none offsets_of (follows (triple _) (stop c.in_err-cb.ensures)))
+
+pub returns-in_err-cr : goal.returns-in_err-cr
+unfolding triple ◌>>=◌
+returns-in_err-cr c = at_exit c.from_residual-in_err-cr.ensures.1 (holds-none offsets_of (follows (triple _) (c.in_ok-cb.ensures ⟫ stop c.in_err-cr.ensures)))
+
+pub returns-in_err-joint : goal.returns-in_err-joint
+unfolding triple ◌>>=◌
+returns-in_err-joint c = at_exit c.from_residual-in_err-joint.ensures.1 (holds-none offsets_of (follows (triple _) (c.in_ok-cb.ensures ⟫ c.in_ok-cr.ensures ⟫ stop c.in_err-joint.ensures)))
+
 pub returns : goal.returns
-unfolding triple
-returns c = let cb : SFits w32 c.offset_or-cb.result.value = search rules in
-    let cr : SFits w32 c.offset_or-cr.result.value = search rules in
-    let joint : SFits w32 c.offset_or-joint.result.value = search rules in
+unfolding triple ◌>>=◌
+returns c = let cb : SFits w32 c.in_ok-cb.cb = search rules in
+    let cr : SFits w32 c.in_ok-cr.cr = search rules in
+    let joint : SFits w32 c.in_ok-joint.joint = search rules in
     rw (to_z-of_z cb, to_z-of_z cr, to_z-of_z joint)
-    (reads-done _ _ _
-    ∙ reads _ _ _ _ c.offset_or-joint.ensures
-    ∙ reads _ _ _ _ (offset_always _ _ (pos 0) c.offset_or-cr.ensures)
-    ∙ reads _ _ _ _ (offset_always _ _ (pos 0) c.offset_or-cb.ensures))
+    (holds offsets_of (follows (triple _) (c.in_ok-cb.ensures ⟫ c.in_ok-cr.ensures ⟫ c.in_ok-joint.ensures ⟫ end)) refl)

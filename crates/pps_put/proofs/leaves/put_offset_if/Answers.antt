@@ -1,11 +1,12 @@
-use mathlib.Core.Path.{◌∙◌}
-use mir.Facts.{to_z-of_z}
+use mathlib.Core.Path.{refl}
+use Rattle.codes.specs.Symbols.{check-none}
 use Rattle.pps_syntax.specs.Offsets.{offset}
-use Rattle.pps_put.specs.Steps.{only-on, only-off, of-value}
+use Rattle.syntax.proofs.PutSteps.{written_on, passed_over}
+use Rattle.pps_put.proofs.Named.{signed}
 use Rattle.pps_put.proofs.leaves.put_offset_if.Goals as goal
 
 pub returns-then-on : goal.returns-then-on
-returns-then-on c = of-value _ offset.symbols (to_z-of_z c.ranges.v) c.put_offset.ensures ∙ only-on _ _ _ c.if-on.true
+returns-then-on c = λ inferred. written_on _ _ _ _ c.if-on.true (signed offset.symbols _ _ c.ranges.v c.put_offset.ensures)
 
-pub returns : goal.returns
-returns c = only-off _ _ _ c.if-on.false
+pub returns-else-on : goal.returns-else-on
+returns-else-on c = λ inferred. passed_over _ _ _ _ c.if-on.false (check-none _) refl

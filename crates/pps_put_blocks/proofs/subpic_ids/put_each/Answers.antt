@@ -1,27 +1,31 @@
-use Prim.Native.Nat.{min}
-use mathlib.Core.Path.{◌≡◌, refl, sym, ◌∙◌}
+use Prim.Native.Nat.{ℕ, min}
+use mathlib.Core.Path.{◌≡◌, sym, ◌∙◌}
 use native.Mathlib.Omega.{arith}
-use lib.ListN.{length}
-use borrow.Author.Rules.{scaled_Fits}
+use lib.ListN.{get_or}
+use Rattle.refusal.specs.Numbers.{number}
+use Rattle.bit_writer.proofs.Ended.{at_err}
 use Rattle.syntax.specs.Elements.{u}
-use Rattle.pps_put.specs.Each.{each_turn, each-end}
+use Rattle.pps_put.proofs.EachPut.{each_turn, each_stop, each_end}
+use Rattle.pps_put.proofs.Named.{named}
 use Rattle.pps_put_blocks.proofs.subpic_ids.put_each.Goals as goal
 
-pub loop-i-init : goal.loop-i-init
-loop-i-init c = (refl, refl)
+pub returns-in_err-put_u : goal.returns-in_err-put_u
+unfolding number
+returns-in_err-put_u c =
+    let ids = c.args.ids.now in
+    let i = c.loop-id.id-index in
+    let bits : min c.args.bits 32 ≡ c.args.bits = omega arith in
+    at_err _ _ _ _ c.from_residual.ensures.1
+    ∙ each_stop _ (u c.args.bits 27) ids i 0 _ _ _ c.loop-id-test.true (named (λ (b : ℕ). (u b 27).symbols (get_or ids i 0)) _ bits c.in_err-put_u.ensures)
+    ∙ c.loop-id.invariant
 
-pub offset_bounds-ids-i : goal.offset_bounds-ids-i
-offset_bounds-ids-i c = scaled_Fits _ (length c.args.ids.now) 4 (omega arith) c.well_formed.1.1.0.1
-
-pub loop-i-preserved : goal.loop-i-preserved
-loop-i-preserved c = let bits = c.args.bits in
-    let b : min bits 32 ≡ bits = omega arith in (
-      c.put_u-t.auto.out ∙ c.loop-i.invariant.0,
-      each_turn _ (u bits 27) c.args.ids.now c.args.n c.loop-i.i 0 c.loop-i-test.true c.requires.0 (rw (← b) c.put_u-t.ensures) ∙ c.loop-i.invariant.1,
-    )
-
-pub shape_of-out : goal.shape_of-out
-shape_of-out c = c.loop-i.invariant.0
+pub loop-id-preserved : goal.loop-id-preserved
+unfolding number
+loop-id-preserved c =
+    let ids = c.args.ids.now in
+    let i = c.loop-id.id-index in
+    let bits : min c.args.bits 32 ≡ c.args.bits = omega arith in
+    each_turn _ (u c.args.bits 27) ids i 0 c.loop-id-test.true (named (λ (b : ℕ). (u b 27).symbols (get_or ids i 0)) _ bits c.in_ok-put_u.ensures) ∙ c.loop-id.invariant
 
 pub returns : goal.returns
-returns c = sym (each-end _ (u c.args.bits 27) c.args.ids.now c.args.n c.loop-i.i c.loop-i-test.false) ∙ c.loop-i.invariant.1
+returns c = sym (each_end _ (u c.args.bits 27) c.args.ids.now c.loop-id.id-index c.loop-id-test.false) ∙ c.loop-id.invariant

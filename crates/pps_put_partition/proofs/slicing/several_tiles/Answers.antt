@@ -9,5 +9,5 @@ pub overflow_mul-result : goal.overflow_mul-result
 overflow_mul-result c = omega (arith, tiles-few c.at_most-columns.result c.at_most-rows.result (omega (arith, c.at_most-columns.ensures)) (omega (arith, c.at_most-rows.ensures)))
 
 pub returns : goal.returns
-returns c = let u = in_use c.args.sizes _ _ (search rules) (search rules) c.at_most-columns.ensures c.at_most-rows.ensures in
+returns c = let u = in_use c.args.grid.now _ _ (search rules) (search rules) c.at_most-columns.ensures c.at_most-rows.ensures in
     ap (ltb 1) u.tiled

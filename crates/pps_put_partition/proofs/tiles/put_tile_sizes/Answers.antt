@@ -1,18 +1,44 @@
-use Rattle.pps_put_partition.specs.Made.{tiles_stop, tiles_ready, tiles-go, some-long}
-use mathlib.Core.Path.{refl, ◌∙◌}
+use mathlib.Core.Path.{refl}
+use Rattle.refusal.specs.Numbers.{number}
+use Rattle.bit_writer.specs.Stop.{on_then}
+use Rattle.bit_writer.proofs.Ended.{stopped_at}
+use Rattle.pps_put_partition.specs.Made.{tiles-listed, widths-put, heights-put}
 use Rattle.pps_put_partition.proofs.tiles.put_tile_sizes.Goals as goal
 
-pub returns-then-b-ne0 : goal.returns-then-b-ne0
-returns-then-b-ne0 c = let a = c.args in tiles_stop a.width a.height a.ctu a.widths.now a.heights.now _ c.put_ctu_size-a.ensures refl (c.demand-b.ensures _) c.if-b-ne0.true
+pub returns-in_err-put_ctu_size : goal.returns-in_err-put_ctu_size
+returns-in_err-put_ctu_size c = tiles-listed c.args.width c.args.height _ _ _ _ c.in_err-put_ctu_size.ensures (stopped_at _ _ _ _ _ c.from_residual.ensures.1)
 
-pub overflow_sub-widths : goal.overflow_sub-widths
-overflow_sub-widths c = let a = c.args in some-long a.widths.now (tiles_ready a.width a.height a.ctu a.widths.now a.heights.now _ c.put_ctu_size-a.ensures refl (c.demand-b.ensures _) c.if-b-ne0.false).0.0
+pub returns-in_err-test : goal.returns-in_err-test
+unfolding number
+returns-in_err-test c =
+    tiles-listed c.args.width c.args.height _ _ _ _ c.in_ok-put_ctu_size.ensures (on_then _ _ _ (c.in_err-test.ensures.put _ _) (stopped_at _ _ _ _ _ c.from_residual-in_err-test.ensures.1))
 
-pub overflow_sub-heights : goal.overflow_sub-heights
-overflow_sub-heights c = let a = c.args in some-long a.heights.now (tiles_ready a.width a.height a.ctu a.widths.now a.heights.now _ c.put_ctu_size-a.ensures refl (c.demand-b.ensures _) c.if-b-ne0.false).0.1
+pub returns-in_err-put_ue : goal.returns-in_err-put_ue
+unfolding number
+returns-in_err-put_ue c =
+    tiles-listed c.args.width c.args.height _ _ _ _ c.in_ok-put_ctu_size.ensures
+    (on_then _ _ _ (c.in_ok-test.ensures.put _ _) (on_then _ _ _ c.in_err-put_ue.ensures (stopped_at _ _ _ _ _ c.from_residual-in_err-put_ue.ensures.1)))
 
-pub shape_of-out : goal.shape_of-out
-shape_of-out c = c.put_sizes.auto.out ∙ c.put_sizes-e.auto.out ∙ c.put_ue-d.auto.out ∙ c.put_ue-c.auto.out ∙ c.put_ctu_size-a.auto.out
+pub returns-in_err-put_ue-2 : goal.returns-in_err-put_ue-2
+unfolding number
+returns-in_err-put_ue-2 c =
+    tiles-listed c.args.width c.args.height _ _ _ _ c.in_ok-put_ctu_size.ensures
+    (on_then _ _ _ (c.in_ok-test.ensures.put _ _) (on_then _ _ _ c.in_ok-put_ue.ensures (on_then _ _ _ c.in_err-put_ue-2.ensures (stopped_at _ _ _ _ _ c.from_residual-in_err-put_ue-2.ensures.1))))
+
+pub returns-in_err-put_sizes : goal.returns-in_err-put_sizes
+unfolding number
+returns-in_err-put_sizes c =
+    let a = c.args in
+    tiles-listed a.width a.height _ _ _ _ c.in_ok-put_ctu_size.ensures
+    (on_then _ _ _ (c.in_ok-test.ensures.put _ _) (on_then _ _ _ c.in_ok-put_ue.ensures (on_then _ _ _ c.in_ok-put_ue-2.ensures
+    (on_then _ _ _ (widths-put a.width a.height a.ctu a.widths.now a.heights.now _ c.in_ok-test.ensures.passed c.in_ok-put_ctu_size.ensures refl _ c.in_ctbs.ensures c.in_err-put_sizes.ensures)
+    (stopped_at _ _ _ _ _ c.from_residual-in_err-put_sizes.ensures.1)))))
 
 pub returns : goal.returns
-returns c = let a = c.args in tiles-go a.width a.height a.ctu a.widths.now a.heights.now _ c.put_ctu_size-a.ensures refl (c.demand-b.ensures _) c.if-b-ne0.false refl c.put_ue-c.ensures refl c.put_ue-d.ensures c.in_ctbs-across.ensures c.put_sizes-e.ensures c.in_ctbs-down.ensures c.put_sizes.ensures
+unfolding number
+returns c =
+    let a = c.args in
+    tiles-listed a.width a.height _ _ _ _ c.in_ok-put_ctu_size.ensures
+    (on_then _ _ _ (c.in_ok-test.ensures.put _ _) (on_then _ _ _ c.in_ok-put_ue.ensures (on_then _ _ _ c.in_ok-put_ue-2.ensures
+    (on_then _ _ _ (widths-put a.width a.height a.ctu a.widths.now a.heights.now _ c.in_ok-test.ensures.passed c.in_ok-put_ctu_size.ensures refl _ c.in_ctbs.ensures c.in_ok-put_sizes.ensures)
+    (heights-put a.width a.height a.ctu a.widths.now a.heights.now _ c.in_ok-test.ensures.passed c.in_ok-put_ctu_size.ensures refl _ c.in_ctbs-2.ensures c.put_sizes-2.ensures)))))

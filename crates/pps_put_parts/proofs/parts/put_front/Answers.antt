@@ -1,17 +1,21 @@
--- One step of the description for each group, the last first.
-use mathlib.Core.Path.{◌∙◌}
+-- One step of the description for each group.
 use Rattle.pps_syntax.specs.Pps.{front}
-use Rattle.syntax.specs.WriteSteps.{writes-done, writes}
+use Rattle.syntax.specs.Syntax.{◌>>=◌}
+use Rattle.syntax.proofs.PutSteps.{follows, exit, ◌⟫◌, stop, end}
 use Rattle.pps_put_parts.proofs.parts.put_front.Goals as goal
 
-pub shape_of-out : goal.shape_of-out
-shape_of-out c = c.put_subpic_ids.auto.out ∙ c.put_kind-d.auto.out ∙ c.put_scaling_win-c.auto.out ∙ c.put_conf_win-b.auto.out ∙ c.put_head-a.auto.out
+pub returns-in_err-put_head : goal.returns-in_err-put_head
+unfolding front ◌>>=◌
+returns-in_err-put_head c = exit front _ _ c.from_residual.ensures.1 (stop _ _ _ c.in_err-put_head.ensures)
+
+pub returns-in_err-put_conf_win : goal.returns-in_err-put_conf_win
+unfolding front ◌>>=◌
+returns-in_err-put_conf_win c = exit front _ _ c.from_residual-in_err-put_conf_win.ensures.1 (c.in_ok-put_head.ensures ⟫ stop _ _ _ c.in_err-put_conf_win.ensures)
+
+pub returns-in_err-put_scaling_win : goal.returns-in_err-put_scaling_win
+unfolding front ◌>>=◌
+returns-in_err-put_scaling_win c = exit front _ _ c.from_residual-in_err-put_scaling_win.ensures.1 (c.in_ok-put_head.ensures ⟫ c.in_ok-put_conf_win.ensures ⟫ stop _ _ _ c.in_err-put_scaling_win.ensures)
 
 pub returns : goal.returns
-unfolding front
-returns c = writes-done _ _ _ ∙
-    writes _ _ _ _ c.put_subpic_ids.ensures ∙
-    writes _ _ _ _ c.put_kind-d.ensures ∙
-    writes _ _ _ _ c.put_scaling_win-c.ensures ∙
-    writes _ _ _ _ c.put_conf_win-b.ensures ∙
-    writes _ _ _ _ c.put_head-a.ensures
+unfolding front ◌>>=◌
+returns c = follows front (c.in_ok-put_head.ensures ⟫ c.in_ok-put_conf_win.ensures ⟫ c.in_ok-put_scaling_win.ensures ⟫ c.put_kind.ensures ⟫ c.put_subpic_ids.ensures ⟫ end)

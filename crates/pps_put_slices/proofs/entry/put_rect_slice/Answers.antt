@@ -1,17 +1,40 @@
-use mir.Facts.{to_z-of_z}
-use mir.Syntax.{w32}
-use mir.Val.{SFits}
+use mathlib.Core.Path.{◌∙◌}
+use Rattle.std.proofs.lemmas.Result.{IfOk-from_err, IfOk-weaker}
 use Rattle.slice_loop.specs.Loop.{position}
-use Rattle.pps_put_slices.specs.EntryPut.{rect_slice_of, entry-made}
-use borrow.Author.Rules.{rules}
+use Rattle.bit_writer.proofs.Ended.{stopped_at}
+use Rattle.pps_put_slices.specs.EntryPut.{rect_slice_of}
+use Rattle.pps_put_slices.proofs.Entries.{size-then, split-then, move-then, followed}
 use Rattle.pps_put_slices.proofs.entry.put_rect_slice.Goals as goal
 
-pub put_move-requires : goal.put_move-requires
-put_move-requires c = c.requires.1
+pub returns-in_err-put_size_in_tiles : goal.returns-in_err-put_size_in_tiles
+returns-in_err-put_size_in_tiles c = λ g preceding o.
+    let k = position c.args.slice.0 c.args.tile.0 preceding in
+    let e = rect_slice_of c.args.e c.args.heights.now in
+    record {
+      put = stopped_at _ _ _ _ _ c.from_residual.ensures.1 ∙ size-then g _ _ o k e _ c.in_err-put_size_in_tiles.ensures;
+      follows = IfOk-from_err _ _ c.from_residual.ensures.0;
+    }
+
+pub returns-in_err-last : goal.returns-in_err-last
+returns-in_err-last c = λ g preceding o.
+    let k = position c.args.slice.0 c.args.tile.0 preceding in
+    let e = rect_slice_of c.args.e c.args.heights.now in
+    record {
+      put =
+          stopped_at _ _ _ _ _ c.from_residual-in_err-last.ensures.1
+          ∙ split-then g _ _ o k e c.row_height-row.ensures c.exp_block-split.ensures _ c.in_err-last.ensures.put
+          ∙ size-then g _ _ o k e _ c.in_ok-put_size_in_tiles.ensures;
+      follows = IfOk-from_err _ _ c.from_residual-in_err-last.ensures.0;
+    }
 
 pub returns : goal.returns
 returns c = λ g preceding o.
-    let a = c.args in
-    let fits : SFits w32 a.e.delta = search rules in
-    entry-made g _ _ o (position a.slice.0 a.tile.0 preceding) (rect_slice_of a.e a.heights.now) _ c.put_size_in_tiles-a.ensures c.row_height-row.ensures c.exp_block-split.ensures
-    c.put_split-s.ensures.put c.put_split-s.ensures.last (rw (to_z-of_z fits) at c.put_move.ensures)
+    let k = position c.args.slice.0 c.args.tile.0 preceding in
+    let e = rect_slice_of c.args.e c.args.heights.now in
+    record {
+      put =
+          move-then g _ _ o k e c.row_height-row.ensures c.exp_block-split.ensures c.in_ok-last.ensures.last _ c.put_move.ensures.put
+          ∙ split-then g _ _ o k e c.row_height-row.ensures c.exp_block-split.ensures _ c.in_ok-last.ensures.put
+          ∙ size-then g _ _ o k e _ c.in_ok-put_size_in_tiles.ensures;
+      follows = IfOk-weaker _ _ _ (λ n m. followed g _ _ o k e c.row_height-row.ensures c.exp_block-split.ensures c.in_ok-last.ensures.last m) c.put_move.ensures.next;
+    }

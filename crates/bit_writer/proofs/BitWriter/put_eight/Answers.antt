@@ -1,0 +1,9 @@
+use Prim.Native.Nat.{◌-◌, ◌%◌}
+use native.Mathlib.Omega.{arith}
+use lib.Pow.{shl_exact, pow_pos, pow_mono}
+use Rattle.bit_writer.proofs.Copying.{put-made}
+use Rattle.bit_writer.proofs.Chunked.{power}
+use Rattle.bit_writer.proofs.BitWriter.put_eight.Goals as goal
+
+pub returns : goal.returns
+returns c = put-made _ c.args.x _ _ (omega arith) (power (8 - c.args.self.now.have % 8) 64 (omega arith)) (power (c.args.self.now.have % 8) 8 (omega arith)) c.put_byte.ensures

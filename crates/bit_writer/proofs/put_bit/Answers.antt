@@ -1,9 +1,0 @@
-use mathlib.Core.Path.{◌∙◌}
-use Rattle.bit_writer.proofs.Steps.{put_open, put_whole}
-use Rattle.bit_writer.proofs.put_bit.Goals as goal
-
-pub returns-then-n-lt7 : goal.returns-then-n-lt7
-returns-then-n-lt7 c = c.holding.ensures _ ∙ put_open _ _ c.if-n-lt7.true
-
-pub returns : goal.returns
-returns c = c.put_byte.ensures ∙ put_whole _ _ c.if-n-lt7.false

@@ -1,0 +1,210 @@
+// A writer as the C interface knows it: it goes in and comes back by value, with the number of its first refusal. Bits
+// go on being put after a refusal.
+ghost use Rattle.std.specs.Prelude.{◌≡◌, true, List, ℕ, [], ◌∷◌, ◌%◌, ◌≤◌, min, ltb};
+ghost use Rattle.std.proofs.lemmas.List.Edits.{sets};
+ghost use Rattle.codes.specs.Bits.{to_bits};
+ghost use Rattle.codes.specs.Bytes.{bit_list};
+ghost use Rattle.codes.specs.ExpGolomb.{ue_code};
+ghost use Rattle.codes.specs.Symbols.{putting, check, checked};
+ghost use Rattle.codes.specs.Coded.{flag_bit, ue_symbols, se_symbols};
+ghost use Rattle.bit_writer.specs.Writing.{fresh, sink_over, play, closed};
+ghost use Rattle.bit_writer.specs.Written.{writer_of, sink_of};
+ghost use Rattle.bit_writer.specs.Answers.{answer_of};
+
+use super::exp_golomb::{code_num, has_code};
+use super::{BitWriter, Sink};
+use nal::ByteCount;
+use refusal::Refusal;
+
+impl From<Sink> for BitWriter {
+    ghost from_gives = { λ s w. w ≡ writer_of s };
+
+    fn from(s: Sink) -> BitWriter {
+        BitWriter {
+            escape: s.escape,
+            zeros: s.zeros,
+            put: s.put,
+            cur: s.cur,
+            have: s.have,
+        }
+    }
+}
+
+impl Sink {
+    // A writer's fields, with a refusal's number.
+    fn of(w: BitWriter, refused: u8) -> Sink
+        ensures { result ≡ sink_of w refused }
+    {
+        Sink {
+            escape: w.escape,
+            zeros: w.zeros,
+            put: w.put,
+            cur: w.cur,
+            have: w.have,
+            refused,
+        }
+    }
+
+    pub fn new(escape: bool) -> Sink
+        ensures { result ≡ fresh escape 0 }
+    {
+        Sink::of(BitWriter::new(escape), 0)
+    }
+
+    pub fn put_bit(self, out: &mut [u8], b: u32) -> Sink
+        ensures { sink_over result out.new ≡ play (sink_over self out.old) (putting (b % 2 ∷ [])) }
+    {
+        let mut w = BitWriter::from(self);
+        w.put_bit(out, b);
+        Sink::of(w, self.refused)
+    }
+
+    pub fn put_bits(self, out: &mut [u8], value: u32, n: u32) -> Sink
+        ensures { sink_over result out.new
+            ≡ play (sink_over self out.old) (putting (to_bits (min n 32) value)) }
+    {
+        let mut w = BitWriter::from(self);
+        w.put_bits(out, value, n);
+        Sink::of(w, self.refused)
+    }
+
+    pub fn put_copy(self, out: &mut [u8], src: &[u8], from: usize, count: usize) -> Sink
+        ensures { sink_over result out.new
+            ≡ play (sink_over self out.old) (putting (bit_list src.now from count)) }
+    {
+        let mut w = BitWriter::from(self);
+        w.put_copy(out, src, from, count);
+        Sink::of(w, self.refused)
+    }
+
+    // The code of a value that has none is put too, behind its refusal.
+    fn put_tested(self, out: &mut [u8], k: u64) -> Sink
+        requires { k ≤ 4294967296 }
+        ensures { sink_over result out.new
+            ≡ play (sink_over self out.old) (checked (ltb k 4294967295) 25 (ue_code k)) }
+    {
+        let mut w = BitWriter::from(self);
+        w.put_code(out, k);
+        if self.refused != 0 || has_code(k) {
+            return Sink::of(w, self.refused);
+        }
+        Sink::of(w, Refusal::NoCode.number())
+    }
+
+    pub fn put_ue(self, out: &mut [u8], v: u32) -> Sink
+        ensures { sink_over result out.new ≡ play (sink_over self out.old) (ue_symbols v) }
+    {
+        self.put_tested(out, u64::from(v))
+    }
+
+    pub fn put_se(self, out: &mut [u8], v: i32) -> Sink
+        ensures { sink_over result out.new ≡ play (sink_over self out.old) (se_symbols v) }
+    {
+        self.put_tested(out, code_num(v))
+    }
+
+    pub fn close(self, out: &mut [u8]) -> Sink
+        ensures { sink_over result out.new ≡ closed (sink_over self out.old) }
+    {
+        let mut w = BitWriter::from(self);
+        w.close(out);
+        Sink::of(w, self.refused)
+    }
+
+    // What a writer answers after a run over an empty output: the refusal, 29 if the bytes need more than `room`, or
+    // their number.
+    pub fn answer(self, room: usize) -> ByteCount
+        ensures { result ≡ answer_of self room }
+    {
+        if self.refused != 0 {
+            return ByteCount::Refused(self.refused);
+        }
+        if room < self.put {
+            return ByteCount::Refused(29);
+        }
+        ByteCount::Bytes(self.put)
+    }
+}
+
+pub fn start(escape: bool) -> Sink
+    ensures { result ≡ fresh escape 0 }
+{
+    Sink::new(escape)
+}
+
+pub fn start_nal(out: &mut [u8], first: u8, second: u8) -> Sink
+    ensures { sink_over result out.new ≡ sink_over (fresh true 2) (sets out.old 0 (first ∷ second ∷ [])) }
+{
+    let w = BitWriter::start_nal(out, first, second);
+    Sink::of(w, 0)
+}
+
+pub fn put_bit(w: Sink, out: &mut [u8], b: u32) -> Sink
+    ensures { sink_over result out.new ≡ play (sink_over w out.old) (putting (b % 2 ∷ [])) }
+{
+    w.put_bit(out, b)
+}
+
+pub fn put_flag(w: Sink, out: &mut [u8], v: u8) -> Sink
+    ensures { sink_over result out.new ≡ play (sink_over w out.old) (putting (flag_bit v ∷ [])) }
+{
+    let mut t = BitWriter::from(w);
+    t.put_flag(out, v);
+    Sink::of(t, w.refused)
+}
+
+pub fn put_bits(w: Sink, out: &mut [u8], value: u32, n: u32) -> Sink
+    ensures { sink_over result out.new ≡ play (sink_over w out.old) (putting (to_bits (min n 32) value)) }
+{
+    w.put_bits(out, value, n)
+}
+
+pub fn put_copy(w: Sink, out: &mut [u8], src: &[u8], from: usize, count: usize) -> Sink
+    ensures { sink_over result out.new ≡ play (sink_over w out.old) (putting (bit_list src.now from count)) }
+{
+    w.put_copy(out, src, from, count)
+}
+
+// A test: refuses with `number` where it fails, unless there is a refusal already.
+pub fn demand(w: Sink, ok: bool, number: u8) -> Sink
+    ensures { (o : List ℕ) → sink_over result o ≡ play (sink_over w o) (check ok number) }
+{
+    if ok {
+        return w;
+    }
+    if w.refused != 0 {
+        return w;
+    }
+    Sink {
+        escape: w.escape,
+        zeros: w.zeros,
+        put: w.put,
+        cur: w.cur,
+        have: w.have,
+        refused: number,
+    }
+}
+
+pub fn put_ue(w: Sink, out: &mut [u8], v: u32) -> Sink
+    ensures { sink_over result out.new ≡ play (sink_over w out.old) (ue_symbols v) }
+{
+    w.put_ue(out, v)
+}
+
+pub fn put_se(w: Sink, out: &mut [u8], v: i32) -> Sink
+    ensures { sink_over result out.new ≡ play (sink_over w out.old) (se_symbols v) }
+{
+    w.put_se(out, v)
+}
+
+pub fn close(w: Sink, out: &mut [u8]) -> Sink
+    ensures { sink_over result out.new ≡ closed (sink_over w out.old) }
+{
+    w.close(out)
+}
+
+pub fn answer(w: Sink, room: usize) -> ByteCount
+    ensures { result ≡ answer_of w room }
+{
+    w.answer(room)
+}

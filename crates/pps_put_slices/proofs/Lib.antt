@@ -1,0 +1,5 @@
+pub mod Answered
+pub mod Entries
+pub mod Sized
+pub mod SplitPut
+pub mod MovePut
