@@ -1,13 +1,17 @@
 -- The fronts of tables: copied, and spread in place.
-use Prim.Native.Nat.{ℕ, zero, suc, ◌+◌, ◌-◌, ◌≤◌, ◌<◌, min}
+use Prim.Native.Nat.{ℕ, zero, suc, ◌+◌, ◌-◌, ◌≤◌, min}
 use mathlib.Core.Path.{◌≡◌, refl, sym, ap, ◌∙◌}
-use mathlib.Core.List.{List, [], ◌∷◌}
+use mathlib.Core.List.{List, [], ◌∷◌, ◌++◌}
 use native.Mathlib.Nat.{sub-zero}
-use native.Mathlib.Numerals.{add-one}
 use native.Mathlib.Omega.{arith}
-use lib.ListN.{length, get_or, take, drop, set, replicate, length-replicate}
-use lib.Seq.{sets, take-suc, take-nil, length-take-le}
-use Rattle.tables.specs.Tables.{sets_append}
+use lib.ListN.{length, take, drop, replicate, length-replicate}
+use lib.Seq.{sets, take-nil, length-take-le, length-sets}
+use mathlib.Core.Bool.{Bool, true, false}
+use lib.Dec.{leb}
+use borrow.Author.Tests.{leb-true, leb-false}
+use Rattle.std.proofs.lemmas.List.{set_past, take-append-drop, take-take}
+use Rattle.std.proofs.Common.{drop_of_length-le}
+use Rattle.tables.specs.Tables.{over, sets_over, sets_append}
 use Rattle.partition.specs.Grid.{max_tiles}
 use Rattle.partition.specs.Sizes.{uniform_size, axis_sizes, uniform_pos, Fit}
 use Rattle.tile_sizes.specs.Answers.{next_size}
@@ -15,11 +19,29 @@ use Rattle.tile_sizes.specs.Left.{sizes_left}
 use Rattle.grid_sizes.proofs.Fill.{Filling}
 
 -- ---- copied
-pub copied_more : (t from : List ℕ) (i : ℕ) → i < length from → set (sets t 0 (take i from)) i (get_or from i 0) ≡ sets t 0 (take (i + 1) from)
-copied_more t from i h =
-    let few : i ≤ length from = omega arith in
-    let n : 0 + length (take i from) ≡ i = omega (arith, length-take-le i from few) in
-    rw (add-one i, take-suc from i 0 h) (sym (sets_append (take i from) (get_or from i 0 ∷ []) t 0 ∙ rw n))
+sets-past : (t ys : List ℕ) (i : ℕ) → length t ≤ i → sets t i ys ≡ t
+sets-past t [] i h = refl
+sets-past t (y ∷ ys) i h = rw (set_past t i y h) (sets-past t ys (suc i) (omega arith))
+
+-- what has no place is left out
+pub copied : (t from u : List ℕ) (count n : ℕ) → n ≡ min count (length t) → u ≡ take n from → count ≤ length from → u ++ drop n t ≡ sets t 0 (take count from)
+unfolding over
+copied t from u count n e f h =
+    let front : length (take n from) ≡ n = length-take-le n from (omega arith) in
+    let laid : sets t 0 (take n from) ≡ take n from ++ drop n t = sets_over t (take n from) (omega arith) ∙ ap (λ (k : ℕ). take n from ++ drop k t) front in
+    let rest = drop n (take count from) in
+    let parts : take n from ++ rest ≡ take count from = ap (λ (l : List ℕ). l ++ rest) (sym (take-take n count from (omega arith))) ∙ take-append-drop n (take count from) in
+    let left : sets (sets t 0 (take n from)) (0 + length (take n from)) rest ≡ sets t 0 (take n from) = past (leb count (length t)) refl in
+    rw f (sym laid ∙ sym left ∙ sym (sets_append (take n from) rest t 0) ∙ ap (sets t 0) parts)
+  where
+    past : (b : Bool) → leb count (length t) ≡ b → sets (sets t 0 (take n from)) (0 + length (take n from)) (drop n (take count from)) ≡ sets t 0 (take n from)
+    past true q =
+        let all : n ≡ count = omega (arith, leb-true count (length t) q) in
+        let few : length (take count from) ≤ n = omega (arith, length-take-le count from h) in
+        rw (drop_of_length-le (take count from) few)
+    past false q =
+        sets-past (sets t 0 (take n from)) (drop n (take count from)) (0 + length (take n from))
+        (omega (arith, leb-false count (length t) q, length-sets t 0 (take n from), length-take-le n from (omega (arith, leb-false count (length t) q))))
 
 -- ---- spread in place
 -- a table of as many rows as there may be

@@ -1,1 +1,4 @@
 pub mod Fronts
+pub mod Slices
+pub mod Sizes
+pub mod Whole

@@ -1,10 +1,5 @@
+pub mod PartitionAnswer
 pub mod TileSizes
 pub mod SliceFlags
-pub mod Block
 pub mod GridTests
 pub mod Slicing
-pub mod Answers
-pub mod TilesStored
-pub mod PartitionAnswer
-pub mod Whole
-pub mod NothingLeft

@@ -1,22 +1,23 @@
 // The front of the partition block (H.266 7.3.2.5, 7.4.3.5): the CTU size, the explicit tile sizes, the tests of the
 // grid.
-ghost use Rattle.std.specs.Prelude.{◌≡◌, ◌≤◌, length, take};
+ghost use Rattle.std.specs.Prelude.{◌≡◌, ◌≤◌, IfOk, OnOk, length, take};
 ghost use Rattle.std.proofs.lemmas.List.Edits.{sets};
 ghost use Rattle.tables.specs.Tables.{over};
+ghost use Rattle.bit_reader.specs.Gives.{Gives, held_as, value_read};
+ghost use Rattle.partition.specs.Grid.{max_tiles};
 ghost use Rattle.partition.specs.Sizes.{uniform_size, axis_sizes, Fit};
 ghost use Rattle.syntax.specs.Syntax.{parse};
 ghost use Rattle.pps_partition.specs.GridTests.{axes_tested};
-ghost use Rattle.pps_partition.specs.TileSizes.{tile_sizes};
-ghost use Rattle.pps_partition.specs.TilesStored.{TilesStored};
+ghost use Rattle.pps_partition.specs.TileSizes.{tile_sizes, sizes_kept};
 
-use bit_reader::guarded::demand;
-use bit_reader::{Cursor, small_u, ue};
+use bit_reader::BitReader;
 use pps_fields::lists::{AxisRead, read_axis};
+use refusal::Refusal;
 use slice_loop::CtbCount;
-use tables::places::put_u32;
+use tables::places::at_most;
 use tile_sizes::{MAX_TILE_COLUMNS, MAX_TILES, in_ctbs, next_size, within_limits};
 
-// The CTU size field, the axes of the grid, and the picture's height; the cursor stands behind the rows.
+// The CTU size field, the axes of the grid, and the picture's height.
 #[derive(Clone, Copy)]
 pub struct TileSizesRead {
     pub ctu: u8,
@@ -25,61 +26,75 @@ pub struct TileSizesRead {
     pub pic_height: CtbCount,
 }
 
-// 9, 10 or 11, or the explicit tile sizes of a picture of so many luma samples.
+// The explicit tile sizes of a picture of so many luma samples.
 pub fn read_tile_sizes(
-    s: &[u8],
+    r: &mut BitReader<'_>,
     width: u32,
     height: u32,
     column_widths: &mut [u32],
     row_heights: &mut [u32],
-    c: Cursor,
-) -> TileSizesRead
-    ensures { TilesStored width height (parse (tile_sizes width height) s.now c) column_widths.old
-        row_heights.old column_widths.new row_heights.new result }
+) -> Result<TileSizesRead, Refusal>
+    ensures gives { Gives (held_as (sizes_kept width height) (parse (tile_sizes width height))) r.old r.new result }
+    ensures columns { OnOk result (column_widths.new
+        ≡ sets column_widths.old 0 (value_read (parse (tile_sizes width height)) r.old).pps_tile_column_width_minus1) }
+    ensures few { IfOk result (λ t. t.rows.count ≤ max_tiles) }
+    ensures rows { OnOk result (row_heights.new
+        ≡ sets row_heights.old 0 (value_read (parse (tile_sizes width height)) r.old).pps_tile_row_height_minus1) }
 {
-    let ctu = small_u(s, c, 2);
-    let sized = demand(ctu.value <= 2, 9, ctu.next);
-    let pic_width = in_ctbs(width, ctu.value);
-    let pic_height = in_ctbs(height, ctu.value);
-    let columns_minus1 = ue(s, sized);
-    let rows_minus1 = ue(s, columns_minus1.next);
-    let few = (columns_minus1.value < MAX_TILE_COLUMNS) & (rows_minus1.value < MAX_TILES);
-    let counted = demand(few, 10, rows_minus1.next);
+    let ctu = r.small_u(2);
+    if ctu > 2 {
+        return Err(Refusal::CtuSize);
+    }
+    let pic_width = in_ctbs(width, ctu);
+    let pic_height = in_ctbs(height, ctu);
+    let columns_minus1 = r.ue()?;
+    let rows_minus1 = r.ue()?;
+    let few = (columns_minus1 < MAX_TILE_COLUMNS) & (rows_minus1 < MAX_TILES);
+    if !few {
+        return Err(Refusal::TileCounts);
+    }
     let columns = read_axis(
-        s,
-        columns_minus1.value + 1,
+        r,
+        columns_minus1 + 1,
         pic_width,
-        11,
+        Refusal::TileSize,
         column_widths,
         0,
-        counted,
-    );
+    )?;
     let rows = read_axis(
-        s,
-        rows_minus1.value + 1,
+        r,
+        rows_minus1 + 1,
         pic_height,
-        11,
+        Refusal::TileSize,
         row_heights,
         0,
-        columns.next,
-    );
-    TileSizesRead {
-        ctu: ctu.value,
+    )?;
+    Ok(TileSizesRead {
+        ctu,
         columns,
         rows,
         pic_height,
-    }
+    })
 }
 
-// 12 where the explicit sizes of an axis pass it, 13 where the grid is over its limits: columns, then rows.
-pub fn test_axes(columns: AxisRead, rows: AxisRead) -> Cursor
+// Whether the explicit sizes of an axis pass it, or the grid its limits: columns, then rows.
+#[tactic(auto, unfolding(crate::specs::GridTests::axes_tested, tile_sizes::specs::Limits::within_limits))]
+pub fn test_axes(columns: AxisRead, rows: AxisRead) -> Result<(), Refusal>
     ensures { result ≡ axes_tested columns rows }
 {
-    let columns_fit = demand(columns.fits, 12, rows.next);
-    let columns_few = demand(columns.sizes <= MAX_TILE_COLUMNS, 13, columns_fit);
-    let rows_fit = demand(rows.fits, 12, columns_few);
-    let within = within_limits(columns.sizes as usize, rows.sizes as usize);
-    demand(within, 13, rows_fit)
+    if !columns.fits {
+        return Err(Refusal::TileSizesSum);
+    }
+    if columns.sizes > MAX_TILE_COLUMNS {
+        return Err(Refusal::GridTooLarge);
+    }
+    if !rows.fits {
+        return Err(Refusal::TileSizesSum);
+    }
+    if !within_limits(columns.sizes as usize, rows.sizes as usize) {
+        return Err(Refusal::GridTooLarge);
+    }
+    Ok(())
 }
 
 // The first `count` numbers to the front of a table; those that have no place there are left out.
@@ -87,12 +102,8 @@ pub fn copy_front(from: &[u32], count: u32, to: &mut [u32])
     requires { count ≤ length from.now }
     ensures { to.new ≡ sets to.old 0 (take count from.now) }
 {
-    let mut i: u32 = 0;
-    while i < count {
-        let k = i as usize;
-        put_u32(to, i, from[k]);
-        i += 1;
-    }
+    let n = at_most(count, to.len());
+    to[..n].copy_from_slice(&from[..n]);
 }
 
 // The sizes of an axis in place of the explicit ones minus 1, which are the first `count` numbers of the table.

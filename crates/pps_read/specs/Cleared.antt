@@ -1,5 +1,5 @@
 -- A set that is read into cleared tables: its lists, then zeros.
-use Rattle.std.specs.Prelude.{ℕ, ◌≤◌, ◌≡◌, refl, List, [], ◌∷◌, Bool, true, false, leb, length}
+use Rattle.std.specs.Prelude.{ℕ, ◌≤◌, ◌≡◌, refl, List, [], ◌∷◌, Bool, true, false, leb, length, Ok, Err}
 use Rattle.std.proofs.Math.Path.{ap}
 use Rattle.std.proofs.Common.{◌∙◌, arith, leb-true}
 use Rattle.std.proofs.Math.Bool.{cond}
@@ -14,8 +14,10 @@ use Rattle.pps_syntax.specs.Rbsp.{ReadSet, ReadAnswer, accepted, refused, read_r
 use Rattle.pps_syntax.proofs.ReadAccepted.{read-partition-accepted, read-unpartitioned}
 use Rattle.pps_syntax.specs.SubpicIds.{max_subpics}
 use Rattle.syntax.specs.Round.{and_parts}
-use Rattle.pps_answer.specs.declared.PpsRead.{PpsRead}
-use Rattle.pps_answer.specs.Answers.{is_accepted, answer_of}
+use Rattle.refusal.specs.declared.Refusal.{Refusal}
+use Rattle.refusal.specs.Numbers.{number}
+use Rattle.pps_answer.specs.declared.AcceptedPps.{AcceptedPps}
+use Rattle.pps_answer.specs.Answers.{Accepted, Refused, said, answer_of}
 use Rattle.pps_answer.specs.Lending.{columns_of, rows_of, zeros, cleared_slices, cleared, filled, put_lists, after_fields}
 
 record Lengths (ids columns rows : ℕ) : Type 0 where
@@ -72,15 +74,20 @@ filled_is rbsp a t e z =
     let rows = sets_over (zeros t.row_heights) (rows_of r.partition) (omega (arith, blank-length {A = ℕ} (length t.row_heights) 0, few.1, l.rows_long)) in
     rw (ids, columns, rows)
 
--- ---- reading: cleared, read, and cleared again unless it was accepted
-module _ (s : List ℕ) (t₀ t₁ t₂ t₃ : Lent) (r : PpsRead) where
-  pub cleared-read : {b : Bool} → t₁ ≡ cleared t₀
-      → (r ≡ answer_of (read_rbsp s)) × ((a : ReadSet) → read_rbsp s ≡ accepted a → t₂ ≡ put_lists a.set t₁)
-      → b ≡ is_accepted r.answer → t₃ ≡ cond b t₂ (cleared t₂) → tables_long t₀ ≡ true → SameLengths t₂ t₀
-      → (r ≡ answer_of (read_rbsp s)) × (t₃ ≡ after_fields (read_rbsp s) t₀)
-  unfolding is_accepted answer_of after_fields
-  cleared-read {b} c R is d long same = (R.0, d ∙ cases (read_rbsp s) refl)
-    where
-      cases : (q : ReadAnswer) → read_rbsp s ≡ q → cond b t₂ (cleared t₂) ≡ after_fields (read_rbsp s) t₀
-      cases (accepted a) p = rw (is, R.0, p) (R.1 a p ∙ ap (put_lists a.set) c ∙ filled_is s a t₀ p long)
-      cases (refused n) p = rw (is, R.0, p) (cleared-same t₂ t₀ same)
+-- ---- reading: cleared, read, and cleared again where it was refused
+pub lists-kept : (s : List ℕ) (t₀ t₁ t₂ : Lent) (r : AcceptedPps) → t₁ ≡ cleared t₀ → said (Ok r) ≡ answer_of (read_rbsp s) → ((a : ReadSet) → read_rbsp s ≡ accepted a → t₂ ≡ put_lists a.set t₁)
+    → tables_long t₀ ≡ true → t₂ ≡ after_fields (read_rbsp s) t₀
+unfolding said answer_of after_fields
+lists-kept s t₀ t₁ t₂ r c e f long = cases (read_rbsp s) refl
+  where
+    cases : (q : ReadAnswer) → read_rbsp s ≡ q → t₂ ≡ after_fields (read_rbsp s) t₀
+    cases (accepted a) p = rw p (f a p ∙ ap (put_lists a.set) c ∙ filled_is s a t₀ p long)
+    cases (refused n) p = let z : Accepted r ≡ Refused n = e ∙ ap answer_of p in absurd (let w : ◌≡◌ {A = ℕ} 0 1 = cc in omega arith)
+
+pub lists-dropped : (s : List ℕ) (t₀ t₂ : Lent) (e : Refusal) {t₃ : Lent} → said (Err e) ≡ answer_of (read_rbsp s) → t₃ ≡ cleared t₂ → SameLengths t₂ t₀ → t₃ ≡ after_fields (read_rbsp s) t₀
+unfolding said answer_of after_fields
+lists-dropped s t₀ t₂ e {t₃} h c same = cases (read_rbsp s) refl
+  where
+    cases : (q : ReadAnswer) → read_rbsp s ≡ q → t₃ ≡ after_fields (read_rbsp s) t₀
+    cases (accepted a) p = let z : Refused (number e) ≡ answer_of (accepted a) = h ∙ ap answer_of p in absurd (let w : ◌≡◌ {A = ℕ} 0 1 = cc in omega arith)
+    cases (refused m) p = rw p (c ∙ cleared-same t₂ t₀ same)

@@ -12,20 +12,14 @@ use Rattle.nal.specs.Lengths.{unescape-length}
 use Rattle.tables.specs.Tables.{over}
 use Rattle.pps_syntax.specs.FromRecord.{Lent, tables_long}
 use Rattle.pps_syntax.specs.Rbsp.{read_rbsp, before_fields, rbsp_of}
-use Rattle.pps_answer.specs.declared.PpsRead.{PpsRead}
-use Rattle.pps_answer.specs.Answers.{refused_pps, answer_of}
+use Rattle.pps_answer.specs.Answers.{PpsAnswer, refused_pps, answer_of}
 use Rattle.pps_answer.specs.Before.{Passed, before-passed}
 use Rattle.pps_answer.specs.Lending.{after_fields}
 use Rattle.pps_answer.specs.ParsePps.{outcome, parse_pps}
 
--- a refusal has a number above 0, and nothing else has one
+-- a refusal has a number above 0
 pub above0 : (e : Refusal) → number e ≡ 0 → ⊥
 above0 e h = absurd (omega (arith, number_above0 e))
-
-pub accepted-is : {A : Type 0} (r : Result A Refusal) → ((e : Refusal) → r ≡ Err e → ⊥) → refused r ≡ 0
-unfolding refused
-accepted-is (Ok x) h = refl
-accepted-is (Err e) h = absurd (h e refl)
 
 module _ (nal work : List ℕ) (fit : Bool) {said : Bool} (F : said ≡ fit) {n : ℕ} (B : n ≡ before_fields nal (length work) said) where
   number_is : n ≡ before_fields nal (length work) fit
@@ -44,11 +38,11 @@ unfolding over
 front-is nal work c a = rw (c, a) (take-append_seam (rbsp_of nal) (drop (length (rbsp_of nal)) work))
 
 module _ (nal work : List ℕ) (t₀ : Lent) {said : Bool} (F : said ≡ tables_long t₀) {n : ℕ} (B : n ≡ before_fields nal (length work) said) where
-  pub refused-before : {r : PpsRead} → (n ≡ 0 → ⊥) → r ≡ refused_pps n → outcome r work t₀ ≡ parse_pps nal work t₀
+  pub refused-before : {r : PpsAnswer} → (n ≡ 0 → ⊥) → r ≡ refused_pps n → outcome r work t₀ ≡ parse_pps nal work t₀
   unfolding parse_pps
   refused-before h e = rw (← number_is nal work (tables_long t₀) F B, ne_eqb n 0 h, e)
 
-  pub read-after : {s : List ℕ} {r : PpsRead} {left : List ℕ} {t₁ : Lent} → n ≡ 0 → left ≡ over (rbsp_of nal) work → s ≡ rbsp_of nal
+  pub read-after : {s : List ℕ} {r : PpsAnswer} {left : List ℕ} {t₁ : Lent} → n ≡ 0 → left ≡ over (rbsp_of nal) work → s ≡ rbsp_of nal
       → (r ≡ answer_of (read_rbsp s)) × (t₁ ≡ after_fields (read_rbsp s) t₀) → outcome r left t₁ ≡ parse_pps nal work t₀
   unfolding parse_pps
   read-after h a q R =

@@ -3,12 +3,11 @@
 use Rattle.std.specs.Prelude.{ℕ, ◌≡◌, List, Bool, true, false, cond, eqb, length}
 use Rattle.std.proofs.Math.Path.{refl, ap}
 use Rattle.std.proofs.Common.{sym, arith, eqb-true}
-use Rattle.pps_answer.specs.Answers.{accepted_pps, refused_pps, record_read, triples_read, answer_of}
+use Rattle.pps_answer.specs.Answers.{Accepted, Refused, accepted_pps, refused_pps, record_read, triples_read, answer_of}
 use Rattle.pps_answer.specs.Before.{before-passed}
 use Rattle.pps_answer.specs.Lending.{filled, after_fields}
 use Rattle.pps_answer.specs.ParsePps.{ReadOutcome, outcome, parse_pps}
 use Rattle.pps_answer.specs.declared.AcceptedPps.{AcceptedPps}
-use Rattle.pps_answer.specs.declared.PpsAnswer.TheVariants.{Accepted, Refused}
 use Rattle.pps_record.specs.declared.VvcPps.{VvcPps}
 use Rattle.pps_record.specs.declared.VvcQpOffsets.{VvcQpOffsets}
 use Rattle.pps_syntax.specs.FromRecord.{Lent, tables_long}
@@ -32,8 +31,8 @@ same-accepted x y e = cc
 not-refused : (x : AcceptedPps) (n : ℕ) → Accepted x ≡ Refused n → ⊥
 not-refused x n e = let z : ◌≡◌ {A = ℕ} 0 1 = cc in omega arith
 
-said : {x y : ReadOutcome} → x ≡ y → x.answer.answer ≡ y.answer.answer
-said e = ap (λ (o : ReadOutcome). o.answer.answer) e
+said : {x y : ReadOutcome} → x ≡ y → x.answer ≡ y.answer
+said e = ap (λ (o : ReadOutcome). o.answer) e
 
 module _ (nal work : List ℕ) (t : Lent) (pps : VvcPps) (triples : List VvcQpOffsets) (taken : ℕ) (left : List ℕ)
     (tables : Lent) where
@@ -56,7 +55,7 @@ module _ (nal work : List ℕ) (t : Lent) (pps : VvcPps) (triples : List VvcQpOf
         read = a;
         is = w;
         record_is = ap (λ (r : AcceptedPps). r.pps) x;
-        triples_are = ap (λ (o : ReadOutcome). o.answer.triples) z;
+        triples_are = ap (λ (r : AcceptedPps). r.triples) x;
         taken_is = ap (λ (r : AcceptedPps). r.bytes_taken) x;
         work-is = ap (λ (o : ReadOutcome). o.work) z;
         tables_are = ap (λ (o : ReadOutcome). o.tables) z;

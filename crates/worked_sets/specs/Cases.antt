@@ -20,12 +20,9 @@ use Rattle.partition.specs.Sizes.{sum, explicit_sizes, uniform_size, tail_size, 
 use Rattle.partition.specs.Slices.{Slice}
 use Rattle.partition.specs.Sums.{among}
 use Rattle.partition.specs.Walk.{slice_heights_of, entry_group, last_group, after, walk}
-use Rattle.pps_answer.specs.Answers.{accepted_pps, refused_pps, answer_of}
+use Rattle.pps_answer.specs.Answers.{PpsAnswer, Accepted, Refused, accepted_pps, refused_pps, answer_of}
 use Rattle.pps_answer.specs.Lending.{after_fields}
 use Rattle.pps_answer.specs.ParsePps.{ReadOutcome, parse_pps}
-use Rattle.pps_answer.specs.declared.PpsRead.{PpsRead}
-use Rattle.pps_answer.specs.declared.PpsAnswer.{PpsAnswer}
-use Rattle.pps_answer.specs.declared.PpsAnswer.TheVariants.{Accepted, Refused}
 use Rattle.pps_record.specs.Absent.{no_partition}
 use Rattle.pps_record.specs.declared.VvcPps.{VvcPps}
 use Rattle.pps_syntax.specs.BlockRefusal.{declined_with}
@@ -75,7 +72,7 @@ pub data Case : Type 0 where
 
 pub data Outcome : Type 0 where
   -- the answer, and the extension bits in the work buffer
-  reads : PpsRead → List ℕ → Outcome
+  reads : PpsAnswer → List ℕ → Outcome
   grids : GridAnswer → Outcome
   splits : SlicesInTile → Outcome
   -- the grid's answer; the plan's; in how many slices the blocks of each tile lie (`partition` Groups.`tile-groups`); and the cover answer that names the lowest tile of those that
@@ -107,7 +104,7 @@ cover_for (sliced g ps) = cover_of g ps
 unfoldable pub outcome : Case → Outcome
 outcome (reading nal) =
     let o : ReadOutcome = parse_pps nal work zero_tables in
-    reads o.answer (extension_of o.answer.answer o.work)
+    reads o.answer (extension_of o.answer o.work)
 outcome (tiling width height ctu ws hs) = grids (grid_answer width height ctu ws hs)
 outcome (splitting heights row) = splits (slices_in_tile heights row)
 outcome (asking r t) =

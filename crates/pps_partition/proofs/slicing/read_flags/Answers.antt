@@ -1,20 +1,20 @@
--- One element of the description for each call.
-use Rattle.pps_fields.specs.FieldReads.{flag-field, tested-or}
-use Rattle.pps_partition.specs.SliceFlags.{flags_read}
-use lib.Dec.{leb, lit<}
-use Rattle.partition.specs.Grid.{max_slices_minus1}
+-- One step of the description for each call.
+use Rattle.std.proofs.Common.{lit<}
+use Rattle.refusal.specs.Numbers.{number}
+use Rattle.bit_reader.proofs.Gives.{at_exit, holds, holds-none}
+use Rattle.syntax.specs.Syntax.{◌>>=◌}
+use Rattle.syntax.proofs.Steps.{follows, ◌⟫◌, stop, end}
+use Rattle.pps_partition.specs.SliceFlags.{slice_flags, flags_kept}
 use Rattle.pps_partition.proofs.slicing.read_flags.Goals as goal
+use Rattle.std.proofs.Common.{refl}
+
+pub returns-in_err-n : goal.returns-in_err-n
+unfolding number slice_flags ◌>>=◌
+returns-in_err-n c = at_exit c.from_residual.ensures.1
+    (holds-none flags_kept (follows (slice_flags c.args.several)
+    (c.flag_or-across_tiles.ensures 0 ⟫ c.flag_or-rect.ensures 26 ⟫ c.flag_or-single.ensures 0 ⟫ stop (c.in_err-n.ensures.value 0 (lit< tt)))))
 
 pub returns : goal.returns
-returns c = flags_read _ _ _ _ _
-    (record {
-      c₁ = c.flag_or-across.result.next;
-      c₂ = c.flag_or-rect.result.next;
-      c₃ = c.flag_or-single.result.next;
-      c₄ = c.ue_at_most-n.result.next;
-      across_is = flag-field _ _ _ 0 0 c.flag_or-across.ensures;
-      rect_is = flag-field _ _ _ 1 26 c.flag_or-rect.ensures;
-      single_is = flag-field _ _ _ 0 0 c.flag_or-single.ensures;
-      count_is = tested-or _ _ _ (λ v. leb v max_slices_minus1) 14 (lit< tt) 0 0 c.ue_at_most-n.ensures;
-      deltas_is = flag-field _ _ _ 0 0 c.flag_or-deltas.ensures;
-    })
+unfolding number slice_flags ◌>>=◌
+returns c = holds flags_kept (follows (slice_flags c.args.several)
+    (c.flag_or-across_tiles.ensures 0 ⟫ c.flag_or-rect.ensures 26 ⟫ c.flag_or-single.ensures 0 ⟫ c.in_ok-n.ensures.value 0 (lit< tt) ⟫ c.flag_or-deltas.ensures 0 ⟫ end)) refl

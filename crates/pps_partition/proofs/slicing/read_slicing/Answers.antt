@@ -1,22 +1,25 @@
--- Flags, slices and the last flag, one behind the other: `sliced-made`.
+-- Flags, slices and the last flag, one behind the other.
 use Prim.Native.Nat.{◌<◌}
-use mathlib.Core.Path.{ap, ◌∙◌}
-use mathlib.Core.Bool.{Bool}
 use native.Mathlib.Omega.{arith}
 use lib.ListN.{length}
-use Rattle.syntax.specs.Syntax.{parse}
-use Rattle.pps_fields.specs.FieldReads.{flag-field}
-use Rattle.pps_partition.specs.Answers.{read_flags}
-use Rattle.pps_partition.specs.SliceFlags.{slice_flags}
-use Rattle.pps_partition.specs.Slicing.{sliced-made, several-made, all-rows, tiles-fit}
+use Rattle.bit_reader.proofs.Gives.{at_exit}
+use Rattle.pps_partition.proofs.Slices.{several-made, all-rows, tiles-fit, no_flags, no_slices, sliced, sliced_put}
 use borrow.Author.Rules.{rules}
 use Rattle.pps_partition.proofs.slicing.read_slicing.Goals as goal
 
 pub overflow_mul-several : goal.overflow_mul-several
 overflow_mul-several c = let small : c.args.num_tile_columns < 256 = search rules in omega (arith, tiles-fit (length c.args.row_heights.now) c.args.num_tile_columns c.requires small)
 
-pub returns : goal.returns
-returns c = λ g h.
-    sliced-made g _ _ _ _ _ (read_flags c.read_flags-f.result) _ _ _ _ _
-    (c.read_flags-f.ensures ∙ ap (λ (b : Bool). parse (slice_flags b) c.args.s.now c.args.c) (several-made _ _ g h))
-    (c.read_coded_slices-slices.ensures g (all-rows _ _ g c.requires h)) (flag-field _ _ _ 0 0 c.flag_or-across.ensures)
+pub returns-in_err-flags-clause-gives : goal.returns-in_err-flags-clause-gives
+returns-in_err-flags-clause-gives c = λ g h. at_exit c.from_residual.ensures.1 (no_flags g _ (several-made _ _ g h) c.in_err-flags.ensures)
+
+pub returns-in_err-num_rect_slices-clause-gives : goal.returns-in_err-num_rect_slices-clause-gives
+returns-in_err-num_rect_slices-clause-gives c = λ g h. at_exit c.from_residual-in_err-num_rect_slices.ensures.1
+    (no_slices g _ (several-made _ _ g h) c.in_ok-flags.ensures (c.in_err-num_rect_slices.ensures.gives g (all-rows _ _ g c.requires h)))
+
+pub returns-clause-gives : goal.returns-clause-gives
+returns-clause-gives c = λ g h. sliced g _ (several-made _ _ g h) c.in_ok-flags.ensures (c.in_ok-num_rect_slices.ensures.gives g (all-rows _ _ g c.requires h)) (c.flag_or-across_slices.ensures 0)
+
+pub returns-clause-tables : goal.returns-clause-tables
+returns-clause-tables c = λ g h. sliced_put g _ (several-made _ _ g h) c.in_ok-flags.ensures (c.in_ok-num_rect_slices.ensures.gives g (all-rows _ _ g c.requires h)) (c.flag_or-across_slices.ensures 0) _ _
+    (c.in_ok-num_rect_slices.ensures.tables g (all-rows _ _ g c.requires h))

@@ -1,22 +1,8 @@
-use Rattle.std.proofs.Common.{◌≡◌, Bool, true, false, not, refl, sym}
 use Rattle.refusal.specs.Numbers.{number}
 use Rattle.bit_reader.proofs.Gives.{at_exit}
+use Rattle.pps_slices.proofs.Chain.{not-false, not-true}
 use Rattle.pps_slices.proofs.Splits.{unsplit, unsplit_table, uncounted, too_many, unread, unfit, passed, some_slices, split_made, split_table}
 use Rattle.pps_slices.proofs.parts.read_split.Goals as goal
-
-not-false : {b : Bool} → not b ≡ true → b ≡ false
-not-false {b} e = cases b e
-  where
-    cases : (b : Bool) → not b ≡ true → b ≡ false
-    cases true e = sym e
-    cases false e = refl
-
-not-true : {b : Bool} → not b ≡ false → b ≡ true
-not-true {b} e = cases b e
-  where
-    cases : (b : Bool) → not b ≡ false → b ≡ true
-    cases true e = refl
-    cases false e = sym e
 
 pub returns-then-not-split-clause-gives : goal.returns-then-not-split-clause-gives
 returns-then-not-split-clause-gives c = unsplit _ _ _ _ c.if-not-split.true
@@ -38,20 +24,20 @@ returns-in_err-heights-clause-gives c = at_exit c.from_residual-in_err-heights.e
 
 pub returns-then-not-heights-clause-gives : goal.returns-then-not-heights-clause-gives
 unfolding number
-returns-then-not-heights-clause-gives c = unfit _ _ _ _ c.if-not-split.false c.in_ok-count.ensures.value c.if-count-left.false c.in_ok-heights.ensures.axis (not-false c.if-not-heights.true)
+returns-then-not-heights-clause-gives c = unfit _ _ _ _ c.if-not-split.false c.in_ok-count.ensures.value c.if-count-left.false c.in_ok-heights.ensures.axis (not-false _ c.if-not-heights.true)
 
 pub returns-then-too_many_slices-clause-gives : goal.returns-then-too_many_slices-clause-gives
 unfolding number
-returns-then-too_many_slices-clause-gives c = passed _ _ _ _ c.if-not-split.false c.in_ok-count.ensures.value c.if-count-left.false c.in_ok-heights.ensures.axis (not-true c.if-not-heights.false) c.num_slices_in_tile-slices.ensures c.if-too_many_slices.ensures
+returns-then-too_many_slices-clause-gives c = passed _ _ _ _ c.if-not-split.false c.in_ok-count.ensures.value c.if-count-left.false c.in_ok-heights.ensures.axis (not-true _ c.if-not-heights.false) c.num_slices_in_tile-slices.ensures c.if-too_many_slices.ensures
 
 pub overflow_sub-result : goal.overflow_sub-result
 unfolding number
-overflow_sub-result c = some_slices _ _ _ _ c.if-not-split.false c.in_ok-count.ensures.value c.if-count-left.false c.in_ok-heights.ensures.axis (not-true c.if-not-heights.false) c.num_slices_in_tile-slices.ensures
+overflow_sub-result c = some_slices _ _ _ _ c.if-not-split.false c.in_ok-count.ensures.value c.if-count-left.false c.in_ok-heights.ensures.axis (not-true _ c.if-not-heights.false) c.num_slices_in_tile-slices.ensures
 
 pub returns-clause-gives : goal.returns-clause-gives
 unfolding number
-returns-clause-gives c = split_made _ _ _ _ c.if-not-split.false c.in_ok-count.ensures.value c.if-count-left.false c.in_ok-heights.ensures.axis (not-true c.if-not-heights.false) c.num_slices_in_tile-slices.ensures c.if-too_many_slices.ensures
+returns-clause-gives c = split_made _ _ _ _ c.if-not-split.false c.in_ok-count.ensures.value c.if-count-left.false c.in_ok-heights.ensures.axis (not-true _ c.if-not-heights.false) c.num_slices_in_tile-slices.ensures c.if-too_many_slices.ensures
 
 pub returns-clause-table : goal.returns-clause-table
 unfolding number
-returns-clause-table c = split_table _ _ _ _ c.if-not-split.false c.in_ok-count.ensures.value c.if-count-left.false c.in_ok-heights.ensures.axis (not-true c.if-not-heights.false) c.num_slices_in_tile-slices.ensures _ _ c.if-too_many_slices.ensures c.in_ok-heights.ensures.table
+returns-clause-table c = split_table _ _ _ _ c.if-not-split.false c.in_ok-count.ensures.value c.if-count-left.false c.in_ok-heights.ensures.axis (not-true _ c.if-not-heights.false) c.num_slices_in_tile-slices.ensures _ _ c.if-too_many_slices.ensures c.in_ok-heights.ensures.table

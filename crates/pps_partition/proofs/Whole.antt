@@ -1,0 +1,267 @@
+-- The parts of the block, one behind the other, are the block as its description has it.
+use Rattle.std.specs.Prelude.{ℕ, ◌≤◌, ◌/◌, ◌≡◌, List, [], ◌∷◌, Bool, true, false, cond, ◌&&◌, leb, Result, Ok, Err, length, take, drop, refl}
+use Rattle.std.proofs.Common.{sym, ap, ◌∙◌, arith, leb-true}
+use Rattle.std.proofs.Math.Seq.{take_at, length-sets, length-take-le}
+use Rattle.std.proofs.lemmas.List.Edits.{sets}
+use Rattle.tables.specs.Tables.{over as laid_over, sets_over, over-length}
+use Rattle.refusal.specs.declared.Refusal.{Refusal}
+use Rattle.refusal.specs.declared.Refusal.TheVariants.{TileSizesSum, GridTooLarge}
+use Rattle.refusal.specs.Numbers.{number, refused}
+use Rattle.bit_reader.specs.declared.BitReader.{BitReader}
+use Rattle.bit_reader.specs.declared.Cursor.{Cursor}
+use Rattle.bit_reader.specs.Gives.{Parsed, parsed, cursor_of, Gives, held_as, value_read}
+use Rattle.bit_reader.specs.Reading.{refusal, cursor_at, demanded}
+use Rattle.bit_reader.specs.Laws.{demanded-refused}
+use Rattle.bit_reader.proofs.Gives.{given, given_back, refused_back, refuses, not-0, over, holds, holds-none}
+use Rattle.partition.specs.Grid.{Grid, columns, rows, max_tile_columns, max_tiles}
+use Rattle.partition.specs.Partition.{in_ctbs, tile_grid}
+use Rattle.partition.specs.Sizes.{uniform_size, axis_sizes, Fit}
+use Rattle.pps_record.specs.declared.VvcPpsPartition.{VvcPpsPartition}
+use Rattle.pps_syntax.specs.PartitionSyntax.{PartitionBlock, partition}
+use Rattle.pps_syntax.specs.Record.{partition_record}
+use Rattle.pps_syntax.specs.SliceTables.{SliceTables, put_slices}
+use Rattle.syntax.specs.Syntax.{parse, ◌>>=◌}
+use Rattle.syntax.proofs.Round.{parse-stuck}
+use Rattle.tile_sizes.specs.Limits.{within_limits, Limited, limits_held}
+use Rattle.pps_fields.specs.Axis.{axis_of}
+use Rattle.pps_slices.specs.Grids.{GridHas}
+use Rattle.pps_slices.proofs.Chain.{was_read, was_refused}
+use Rattle.pps_partition.specs.declared.slicing.SlicingRead.{SlicingRead}
+use Rattle.pps_partition.specs.declared.tiles.TileSizesRead.{TileSizesRead}
+use Rattle.pps_partition.specs.GridTests.{axes_tested, grid_tested}
+use Rattle.pps_partition.specs.PartitionAnswer.{one_block}
+use Rattle.pps_partition.specs.Slicing.{Slicing, slicing, slicing_kept}
+use Rattle.pps_partition.specs.TileSizes.{TileSizes, tile_sizes, sizes_kept, grid_from}
+
+-- ---- four tests, one behind the other
+abbrev tested : Bool → Bool → Bool → Bool → Result (Unit {0}) Refusal
+tested a b c d = cond a (cond b (cond c (cond d (Ok tt) (Err GridTooLarge)) (Err TileSizesSum)) (Err GridTooLarge)) (Err TileSizesSum)
+
+-- behind a refusal no other comes
+demanded-last : (c d : Bool) (at n : ℕ) → (n ≡ 0 → ⊥) → demanded d 13 (demanded c 12 (record { at = at; refused = n })) ≡ record { at = at; refused = n }
+demanded-last c d at n h = ap (demanded d 13) (demanded-refused c 12 _ h) ∙ demanded-refused d 13 _ h
+
+later : (b c d : Bool) (at n : ℕ) → (n ≡ 0 → ⊥) → demanded d 13 (demanded c 12 (demanded b 13 (record { at = at; refused = n }))) ≡ record { at = at; refused = n }
+later b c d at n h = ap (λ (x : Cursor). demanded d 13 (demanded c 12 x)) (demanded-refused b 13 _ h) ∙ demanded-last c d at n h
+
+tests_are : (a b c d : Bool) (at : ℕ) → demanded d 13 (demanded c 12 (demanded b 13 (demanded a 12 (cursor_at at)))) ≡ record { at = at; refused = refused (tested a b c d) }
+unfolding demanded refused number
+tests_are false b c d at = later b c d at 12 (λ z. omega arith)
+tests_are true false c d at = demanded-last c d at 13 (λ z. omega arith)
+tests_are true true false d at = demanded-refused d 13 _ (λ z. omega arith)
+tests_are true true true false at = refl
+tests_are true true true true at = refl
+
+all_held : (a b c d : Bool) → Ok tt ≡ tested a b c d → (b ≡ true) × (c ≡ true) × (d ≡ true)
+all_held false b c d e = absurd cc
+all_held true false c d e = absurd cc
+all_held true true false d e = absurd cc
+all_held true true true false e = absurd cc
+all_held true true true true e = (refl, refl, refl)
+
+-- ---- the block
+abbrev pub block_of : TileSizes → Slicing → PartitionBlock
+block_of t l =
+    record {
+      pps_log2_ctu_size_minus5 = t.pps_log2_ctu_size_minus5;
+      pps_tile_column_width_minus1 = t.pps_tile_column_width_minus1;
+      pps_tile_row_height_minus1 = t.pps_tile_row_height_minus1;
+      pps_loop_filter_across_tiles_enabled_flag = l.flags.pps_loop_filter_across_tiles_enabled_flag;
+      pps_rect_slice_flag = l.flags.pps_rect_slice_flag;
+      pps_single_slice_per_subpic_flag = l.flags.pps_single_slice_per_subpic_flag;
+      pps_num_slices_in_pic_minus1 = l.flags.pps_num_slices_in_pic_minus1;
+      pps_tile_idx_delta_present_flag = l.flags.pps_tile_idx_delta_present_flag;
+      rect_slices = l.rect_slices;
+      pps_loop_filter_across_slices_enabled_flag = l.pps_loop_filter_across_slices_enabled_flag;
+    }
+
+module _ (W H : ℕ) where
+  -- what is read behind the sizes
+  sliced_at : TileSizes → List ℕ → Cursor → Parsed Slicing
+  sliced_at t s c = parse (slicing (grid_from W H t)) s (grid_tested W H t c)
+
+  abbrev behind_sizes : TileSizes → List ℕ → Cursor → Parsed PartitionBlock
+  behind_sizes t s c = parsed (block_of t (sliced_at t s c).value) (sliced_at t s c).next
+
+  splits : (s : List ℕ) (c : Cursor) → parse (partition W H) s c ≡ behind_sizes (parse (tile_sizes W H) s c).value s (parse (tile_sizes W H) s c).next
+  unfolding partition tile_sizes slicing grid_tested sliced_at parse ◌>>=◌
+  splits s c = refl
+
+  sliced-stuck : (t : TileSizes) (s : List ℕ) (c : Cursor) → ((grid_tested W H t c).refused ≡ 0 → ⊥) → (sliced_at t s c).next ≡ grid_tested W H t c
+  unfolding sliced_at
+  sliced-stuck t s c h = parse-stuck (slicing (grid_from W H t)) s (grid_tested W H t c) h
+
+  tested-stuck : (t : TileSizes) (c : Cursor) → (c.refused ≡ 0 → ⊥) → grid_tested W H t c ≡ c
+  unfolding grid_tested
+  tested-stuck t c h = ap (demanded _ 13) (ap (demanded _ 12) (ap (demanded _ 13) (demanded-refused _ 12 c h) ∙ demanded-refused _ 13 c h) ∙ demanded-refused _ 12 c h) ∙ demanded-refused _ 13 c h
+
+  -- the tests over what was counted on the axes
+  tested-as : (t : TileSizes) (at : ℕ) → grid_tested W H t (cursor_at at) ≡ record { at = at; refused = refused (axes_tested (sizes_kept W H t).columns (sizes_kept W H t).rows) }
+  unfolding grid_tested axes_tested axis_of
+  tested-as t at = tests_are _ _ _ _ at
+
+  abbrev pub Block : BitReader → BitReader → Result VvcPpsPartition Refusal → Type 0
+  Block p r x = Gives (held_as one_block (parse (partition W H))) p r x
+
+  block-refused : {p r : BitReader} {e : Refusal} → Gives (parse (partition W H)) p r (Err e) → Block p r (Err e)
+  block-refused g = holds-none one_block g
+
+  -- the sizes read from a place, their grid, the explicit rows and the picture's height
+  abbrev sizes_at : BitReader → TileSizes
+  sizes_at p = value_read (parse (tile_sizes W H)) p
+
+  abbrev grid_at : BitReader → Grid
+  grid_at p = grid_from W H (sizes_at p)
+
+  abbrev rows_at : BitReader → List ℕ
+  rows_at p = (sizes_at p).pps_tile_row_height_minus1
+
+  abbrev height_at : BitReader → ℕ
+  height_at p = in_ctbs H (sizes_at p).pps_log2_ctu_size_minus5
+
+  module _ {p q : BitReader} where
+    pub no_sizes : {e : Refusal} → Gives (held_as (sizes_kept W H) (parse (tile_sizes W H))) p q (Err e) → Block p q (Err e)
+    no_sizes {e} S =
+        let s = p.bytes.now in
+        let y : Parsed TileSizes = parse (tile_sizes W H) s (cursor_of p) in
+        let is : refusal (cursor_of q) (number e) ≡ y.next = refused_back (was_refused (sizes_kept W H) (parse (tile_sizes W H)) S) in
+        let stuck = not-0 e q.bit_pos is in
+        let tests : grid_tested W H y.value y.next ≡ y.next = tested-stuck y.value y.next stuck in
+        let last = sliced-stuck y.value s y.next (λ z. stuck (ap (λ (c : Cursor). c.refused) (sym tests) ∙ z)) in
+        block-refused (refuses S.bytes (is ∙ sym (ap (λ (b : Parsed PartitionBlock). b.next) (splits s (cursor_of p)) ∙ last ∙ tests)))
+
+    module _ {z : TileSizesRead} (S : Gives (held_as (sizes_kept W H) (parse (tile_sizes W H))) p q (Ok z)) where
+      base : parse (partition W H) p.bytes.now (cursor_of p) ≡ behind_sizes (sizes_at p) p.bytes.now (cursor_of q)
+      base =
+          splits p.bytes.now (cursor_of p)
+          ∙ ap (λ (y : Parsed TileSizes). behind_sizes y.value p.bytes.now y.next) (sym (given_back (was_read (sizes_kept W H) (parse (tile_sizes W H)) S)))
+
+      tests : {x : Result (Unit {0}) Refusal} → x ≡ axes_tested z.columns z.rows → grid_tested W H (sizes_at p) (cursor_of q) ≡ record { at = q.bit_pos; refused = refused x }
+      tests {x} e =
+          tested-as (sizes_at p) q.bit_pos
+          ∙ ap (λ (y : TileSizesRead). record { at = q.bit_pos; refused = refused (axes_tested y.columns y.rows) }) S.value
+          ∙ ap (λ (y : Result (Unit {0}) Refusal). record { at = q.bit_pos; refused = refused y }) (sym e)
+
+      pub no_grid : {e : Refusal} → Err e ≡ axes_tested z.columns z.rows → Block p q (Err e)
+      unfolding refused
+      no_grid {e} x =
+          let is : refusal (cursor_of q) (number e) ≡ grid_tested W H (sizes_at p) (cursor_of q) = sym (tests x) in
+          let last = sliced-stuck (sizes_at p) p.bytes.now (cursor_of q) (not-0 e q.bit_pos is) in
+          block-refused (refuses S.bytes (is ∙ sym last ∙ sym (ap (λ (b : Parsed PartitionBlock). b.next) base)))
+
+      module _ (fine : Ok tt ≡ axes_tested z.columns z.rows) where
+        going : sliced_at (sizes_at p) p.bytes.now (cursor_of q) ≡ parse (slicing (grid_at p)) p.bytes.now (cursor_of q)
+        unfolding sliced_at refused
+        going = ap (parse (slicing (grid_at p)) p.bytes.now) (tests fine)
+
+        pub no_slicing : {r : BitReader} {e : Refusal} → Gives (held_as slicing_kept (parse (slicing (grid_at p)))) q r (Err e) → Block p r (Err e)
+        no_slicing {r} {e} L =
+            let is : refusal (cursor_of r) (number e) ≡ (parse (slicing (grid_at p)) p.bytes.now (cursor_of q)).next = refused_back (over S.bytes (was_refused slicing_kept (parse (slicing (grid_at p))) L)) in
+            block-refused (refuses (L.bytes ∙ S.bytes) (is ∙ sym (ap (λ (b : Parsed PartitionBlock). b.next) base ∙ ap (λ (y : Parsed Slicing). y.next) going)))
+
+        module _ {r : BitReader} {l : SlicingRead} (L : Gives (held_as slicing_kept (parse (slicing (grid_at p)))) q r (Ok l)) where
+          abbrev sliced : Slicing
+          sliced = value_read (parse (slicing (grid_at p))) q
+
+          block : Gives (parse (partition W H)) p r (Ok (block_of (sizes_at p) sliced))
+          block =
+              given (L.bytes ∙ S.bytes)
+              (ap (λ (y : Parsed Slicing). parsed (block_of (sizes_at p) y.value) y.next) (given_back (over S.bytes (was_read slicing_kept (parse (slicing (grid_at p))) L)) ∙ sym going) ∙ sym base)
+
+          pub block_made : Block p r (Ok (record {
+            present = 1;
+            pps_log2_ctu_size_minus5 = z.ctu;
+            num_tile_column_widths = z.columns.count;
+            num_tile_row_heights = z.rows.count;
+            pps_loop_filter_across_tiles_enabled_flag = l.flags.across_tiles;
+            pps_rect_slice_flag = l.flags.rect;
+            pps_single_slice_per_subpic_flag = l.flags.single;
+            pps_num_slices_in_pic_minus1 = l.flags.num_slices_minus1;
+            pps_tile_idx_delta_present_flag = l.flags.deltas;
+            num_rect_slices = l.num_rect_slices;
+            pps_loop_filter_across_slices_enabled_flag = l.across_slices;
+          }))
+          unfolding partition_record axis_of
+          block_made = holds one_block block (rw (← S.value, ← L.value) refl)
+
+          pub columns_put : (t u : List ℕ) → u ≡ sets t 0 (sizes_at p).pps_tile_column_width_minus1 → u ≡ sets t 0 (value_read (parse (partition W H)) p).pps_tile_column_width_minus1
+          columns_put t u e = e ∙ ap (λ (b : PartitionBlock). sets t 0 b.pps_tile_column_width_minus1) (sym block.value)
+
+          pub rows_put : (t u : List ℕ) → u ≡ sets t 0 (sizes_at p).pps_tile_row_height_minus1 → u ≡ sets t 0 (value_read (parse (partition W H)) p).pps_tile_row_height_minus1
+          rows_put t u e = e ∙ ap (λ (b : PartitionBlock). sets t 0 b.pps_tile_row_height_minus1) (sym block.value)
+
+          pub slices_put : (t u : SliceTables) → u ≡ put_slices t 0 0 sliced.rect_slices → u ≡ put_slices t 0 0 (value_read (parse (partition W H)) p).rect_slices
+          slices_put t u e = e ∙ ap (λ (b : PartitionBlock). put_slices t 0 0 b.rect_slices) (sym block.value)
+
+        -- ---- the grid
+        held : (leb z.columns.sizes max_tile_columns ≡ true) × (z.rows.fits ≡ true) × (leb z.rows.sizes (max_tiles / z.columns.sizes) ≡ true)
+        unfolding axes_tested
+        held = all_held z.columns.fits _ _ _ fine
+
+        limited : Limited z.columns.sizes z.rows.sizes
+        unfolding within_limits
+        limited = limits_held z.columns.sizes z.rows.sizes (both held.0 held.2)
+          where
+            both : {a b : Bool} → a ≡ true → b ≡ true → (a && b) ≡ true
+            both e f = rw (e, f)
+
+        pub grid-small : (z.columns.sizes ≤ max_tile_columns) × (z.rows.sizes ≤ max_tiles)
+        grid-small = (limited.few, limited.low)
+
+        sizes_are : (z.columns.sizes ≡ columns (grid_at p)) × (z.rows.sizes ≡ rows (grid_at p))
+        unfolding axis_of tile_grid
+        sizes_are = (sym (ap (λ (y : TileSizesRead). y.columns.sizes) S.value), sym (ap (λ (y : TileSizesRead). y.rows.sizes) S.value))
+
+        -- the explicit rows are the front of a table v of the limit
+        module _ (v₀ v : List ℕ) (long : length v₀ ≡ max_tiles) (few : z.rows.count ≤ max_tiles) (put : v ≡ sets v₀ 0 (sizes_at p).pps_tile_row_height_minus1) where
+          counted : z.rows.count ≡ length (rows_at p)
+          unfolding axis_of
+          counted = sym (ap (λ (y : TileSizesRead). y.rows.count) S.value)
+
+          same-length : length v ≡ max_tiles
+          same-length = ap length put ∙ length-sets v₀ 0 (rows_at p) ∙ long
+
+          pub front : take z.rows.count v ≡ (rows_at p)
+          unfolding laid_over
+          front = ap (take z.rows.count) (put ∙ sets_over v₀ (rows_at p) (omega (arith, counted))) ∙ take_at (rows_at p) (drop (length (rows_at p)) v₀) z.rows.count (sym counted)
+
+          height_is : z.pic_height.0 ≡ (height_at p)
+          height_is = sym (ap (λ (y : TileSizesRead). y.pic_height.0) S.value)
+
+          rows_fit : Fit (rows_at p) (height_at p)
+          unfolding axis_of
+          rows_fit = leb-true _ _ (ap (λ (y : TileSizesRead). y.rows.fits) S.value ∙ held.1)
+
+          rows_sized : z.rows.sizes ≡ length (axis_sizes (rows_at p) (height_at p))
+          unfolding axis_of
+          rows_sized = sym (ap (λ (y : TileSizesRead). y.rows.sizes) S.value)
+
+          -- what `spread` asks for
+          pub spread_ready : (z.rows.count ≤ length v) × (z.rows.uniform ≡ uniform_size (take z.rows.count v)) × Fit (take z.rows.count v) z.pic_height.0
+              × (length (axis_sizes (take z.rows.count v) z.pic_height.0) ≤ length v)
+          unfolding axis_of
+          spread_ready =
+              rw (front, height_is)
+              (omega (arith, same-length), sym (ap (λ (y : TileSizesRead). y.rows.uniform) S.value), rows_fit, omega (arith, same-length, rows_sized, limited.low))
+
+          module _ {w : List ℕ} (spread : w ≡ laid_over (axis_sizes (take z.rows.count v) z.pic_height.0) v) where
+            laid : w ≡ laid_over (axis_sizes (rows_at p) (height_at p)) v
+            laid = rw (front, height_is) at spread
+
+            -- it leaves room for the rows
+            pub spread_length : z.rows.sizes ≤ length w
+            spread_length = omega (arith, ap length laid, over-length (axis_sizes (rows_at p) (height_at p)) v (omega (arith, same-length, rows_sized, limited.low)), same-length, limited.low)
+
+            pub spread_front : z.rows.sizes ≡ length (take z.rows.sizes w)
+            spread_front = sym (length-take-le z.rows.sizes w spread_length)
+
+            pub front_few : length (take z.rows.sizes w) ≤ max_tiles
+            front_few = omega (arith, spread_front, limited.low)
+
+            pub grid_has : GridHas z.columns.sizes (take z.rows.sizes w) (grid_at p)
+            unfolding tile_grid laid_over
+            grid_has =
+                record {
+                  columns_are = sym sizes_are.0;
+                  heights_are = sym (ap (take z.rows.sizes) laid ∙ take_at (axis_sizes (rows_at p) (height_at p)) (drop (length (axis_sizes (rows_at p) (height_at p))) v) z.rows.sizes (sym rows_sized));
+                }
