@@ -1,5 +1,5 @@
 -- The parts of the block, one behind the other, are the block as its description has it.
-use Rattle.std.specs.Prelude.{ℕ, ◌≤◌, ◌/◌, ◌≡◌, List, [], ◌∷◌, Bool, true, false, cond, ◌&&◌, leb, Result, Ok, Err, length, take, drop, refl}
+use Rattle.std.specs.Prelude.{ℕ, ◌≤◌, ◌/◌, ◌≡◌, List, Bool, true, false, cond, ◌&&◌, leb, Result, Ok, Err, length, take, drop, refl}
 use Rattle.std.proofs.Common.{sym, ap, ◌∙◌, arith, leb-true}
 use Rattle.std.proofs.Math.Seq.{take_at, length-sets, length-take-le}
 use Rattle.std.proofs.lemmas.List.Edits.{sets}

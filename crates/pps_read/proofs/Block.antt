@@ -1,6 +1,6 @@
 -- The partition block of a set, where there is one.
 use Rattle.std.specs.Prelude.{ℕ, ◌≡◌, refl, List, [], ◌∷◌, Bool, true, false, cond, eqb, length, Result, Ok, Err, OnOk}
-use Rattle.std.proofs.Common.{sym, ap, ap₂, ◌∙◌, eq-eqb, ne_eqb}
+use Rattle.std.proofs.Common.{sym, ap, ◌∙◌, eq-eqb, ne_eqb}
 use Rattle.std.proofs.lemmas.List.Edits.{sets}
 use Rattle.refusal.specs.declared.Refusal.{Refusal}
 use Rattle.bit_reader.specs.declared.BitReader.{BitReader}
@@ -31,7 +31,7 @@ blocks-put : (b : PartitionBlock) (bs : List PartitionBlock) (c₀ r₀ : List �
     → (length bs ≡ 1) × BlocksPut bs c₀ c₁ r₀ r₁ t₀ t₁
 blocks-put b bs c₀ r₀ t₀ e c r t = rw e (refl, record { columns = c; rows = r; slices = t })
 
-module _ (W H : ℕ) {p q : BitReader} (c₀ r₀ : List ℕ) (t₀ : SliceTables) {c₁ r₁ : List ℕ} {t₁ : SliceTables} where
+module _ (W H : ℕ) {p q : BitReader} (c₀ r₀ : List ℕ) (t₀ : SliceTables) (c₁ r₁ : List ℕ) (t₁ : SliceTables) where
   block-there : {x : Result VvcPpsPartition Refusal} → Gives (held_as one_block (parse (partition W H))) p q x
       → OnOk x (c₁ ≡ sets c₀ 0 (value_read (parse (partition W H)) p).pps_tile_column_width_minus1)
       → OnOk x (r₁ ≡ sets r₀ 0 (value_read (parse (partition W H)) p).pps_tile_row_height_minus1)

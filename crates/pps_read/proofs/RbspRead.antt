@@ -1,5 +1,5 @@
 -- Front, partition block, back and end of a set, read one behind the other, are the set that the description reads.
-use Rattle.std.specs.Prelude.{ℕ, ◌/◌, ◌≡◌, refl, List, Bool, true, false, cond, ◌&&◌, eqb, length, Result, Ok, Err}
+use Rattle.std.specs.Prelude.{ℕ, ◌≡◌, refl, List, Bool, true, false, ◌&&◌, eqb, length, Result, Ok, Err}
 use Rattle.std.specs.Result.{IsErr, IsErrAnd}
 use Rattle.std.proofs.Common.{sym, ap, subst, ◌∙◌, Bor, arith, eq-eqb, ne_eqb}
 use Rattle.std.proofs.lemmas.List.Edits.{sets}
@@ -8,18 +8,18 @@ use Rattle.refusal.specs.declared.Refusal.{Refusal}
 use Rattle.refusal.specs.Numbers.{number}
 use Rattle.bit_reader.specs.declared.BitReader.{BitReader}
 use Rattle.bit_reader.specs.declared.Cursor.{Cursor}
-use Rattle.bit_reader.specs.Gives.{Parsed, parsed, cursor_of, Gives, value_read, held_as}
+use Rattle.bit_reader.specs.Gives.{Parsed, cursor_of, Gives, value_read, held_as}
 use Rattle.bit_reader.specs.Laws.{trailing_stays}
 use Rattle.bit_reader.specs.Reading.{cursor_at, refusal, trailing_read}
 use Rattle.bit_reader.proofs.Gives.{given, given_back, refused_back, not-0, over, held_back, held-none_back}
 use Rattle.pps_record.specs.declared.VvcPpsPartition.{VvcPpsPartition}
-use Rattle.pps_syntax.specs.Pps.{Front, Back, Pps, front, back, pps, partitioned, pic_width, pic_height}
-use Rattle.pps_syntax.specs.Rbsp.{ReadSet, ReadAnswer, accepted, refused, extension_for, behind_extension, answered, read_rbsp}
+use Rattle.pps_syntax.specs.Pps.{Front, Pps, front, back, pps, partitioned, pic_width, pic_height}
+use Rattle.pps_syntax.specs.Rbsp.{ReadSet, accepted, refused, extension_for, behind_extension, answered, read_rbsp}
 use Rattle.pps_syntax.specs.FromRecord.{lent}
-use Rattle.pps_syntax.specs.Record.{partition_record, record_of, triples_of}
+use Rattle.pps_syntax.specs.Record.{record_of}
 use Rattle.pps_syntax.specs.SliceTables.{SliceTables}
 use Rattle.pps_syntax.proofs.ReadWhole.{read_whole}
-use Rattle.syntax.specs.Elements.{is_set, one_if}
+use Rattle.syntax.specs.Elements.{one_if}
 use Rattle.syntax.specs.Syntax.{parse, ◌>>=◌}
 use Rattle.syntax.proofs.Steps.{follows, ◌⟫◌, stop, end}
 use Rattle.pps_parts.specs.declared.FrontRead.{FrontRead}
@@ -27,7 +27,7 @@ use Rattle.pps_parts.specs.declared.BackRead.{BackRead}
 use Rattle.pps_parts.specs.Ends.{extension_at, end_read}
 use Rattle.pps_parts.specs.Parts.{front_of, back_of}
 use Rattle.pps_answer.specs.declared.AcceptedPps.{AcceptedPps}
-use Rattle.pps_answer.specs.Answers.{PpsAnswer, Accepted, Refused, said, first_bit, record_from, answer_of, answer_from}
+use Rattle.pps_answer.specs.Answers.{Accepted, Refused, said, first_bit, record_from, answer_of, answer_from}
 use Rattle.pps_answer.specs.Lending.{put_lists}
 use Rattle.pps_read.specs.Block.{blocks_read, blocks_record, BlocksPut}
 

@@ -2,7 +2,6 @@
 use Rattle.std.specs.Prelude.{ℕ, ◌≤◌, ◌≡◌, refl, List, [], ◌∷◌, Bool, true, false, leb, length, Ok, Err}
 use Rattle.std.proofs.Math.Path.{ap}
 use Rattle.std.proofs.Common.{◌∙◌, arith, leb-true}
-use Rattle.std.proofs.Math.Bool.{cond}
 use Rattle.tables.specs.Tables.{blank-length, sets_over}
 use Rattle.partition.specs.Grid.{max_tile_columns, max_tiles}
 use Rattle.pps_syntax.specs.FromRecord.{Lent, lengths_fit, tables_long}

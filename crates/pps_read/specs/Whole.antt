@@ -1,12 +1,12 @@
 -- Reading a NAL unit: refused before its fields, or read from the work buffer.
-use Rattle.std.specs.Prelude.{ℕ, ◌≤◌, ◌≡◌, refl, List, Bool, length, take, drop, Result, Ok, Err}
+use Rattle.std.specs.Prelude.{ℕ, ◌≤◌, ◌≡◌, List, Bool, length, take, drop}
 use Rattle.std.proofs.Math.Path.{sym}
 use Rattle.std.proofs.Common.{ap, ◌∙◌, arith}
 use Rattle.std.proofs.Math.ListN.{length-drop}
 use Rattle.std.proofs.Math.Seq.{take-append_seam}
 use borrow.Author.Tests.{eq-eqb, ne_eqb}
 use Rattle.refusal.specs.declared.Refusal.{Refusal}
-use Rattle.refusal.specs.Numbers.{number, refused}
+use Rattle.refusal.specs.Numbers.{number}
 use Rattle.refusal.proofs.Numbers.{number_above0}
 use Rattle.nal.specs.Lengths.{unescape-length}
 use Rattle.tables.specs.Tables.{over}

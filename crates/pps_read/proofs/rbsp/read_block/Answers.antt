@@ -13,5 +13,7 @@ returns-then-not-partitioned c = let a = c.args in
 pub returns : goal.returns
 returns c = let a = c.args in
     let r = c.read_partition.ensures in
-    let b = block-read a.width a.height a.tile_column_widths.now a.tile_row_heights.now (slice_tables a.entries.now a.split_heights.now) a.partitioned c.if-not-partitioned.false r.answer r.columns r.rows r.slices in
+    let t = c.read_partition.new in
+    let b = block-read a.width a.height a.tile_column_widths.now a.tile_row_heights.now (slice_tables a.entries.now a.split_heights.now)
+    t.tile_column_widths t.tile_row_heights (slice_tables t.entries t.split_heights) a.partitioned c.if-not-partitioned.false r.answer r.columns r.rows r.slices in
     record { answer = b.0; tables = b.1 }
