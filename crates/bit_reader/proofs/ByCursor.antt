@@ -9,9 +9,9 @@ use Rattle.refusal.proofs.Numbers.{number_above0}
 use Rattle.bit_reader.specs.declared.BitReader.{BitReader}
 use Rattle.bit_reader.specs.declared.Cursor.{Cursor}
 use Rattle.bit_reader.specs.declared.BitsRead.{BitsRead}
-use Rattle.bit_reader.specs.Reading.{cursor_at, refusal, onward, zeros_at, unless_refused, ue_after, ue_within, u_read, byte_read, ue_read, se_read, trailing_read}
+use Rattle.bit_reader.specs.Reading.{cursor_at, refusal, onward, zeros_at, unless_refused, ue_after, ue_within, u_read, ue_read, se_read, trailing_read}
 use Rattle.bit_reader.specs.Gives.{Parsed, cursor_of, Gives, u_parsed, ue_parsed, se_parsed, trailing_parsed}
-use Rattle.bit_reader.specs.Laws.{cursor_is, byte-is, ue-is, ue_stays}
+use Rattle.bit_reader.specs.Laws.{cursor_is, ue-is, ue_stays}
 use Rattle.bit_reader.proofs.Gives.{given_back, refused_back}
 
 -- a ue(v) that is refused is 0
@@ -52,9 +52,6 @@ module _ {s : Bor (List ℕ)} (c : Cursor) {q : BitReader} (h : c.refused ≡ 0)
   pub u_at : (n : ℕ) {v : ℕ} → Gives (u_parsed n) (reader_at s c) q (Ok v) → record { value = v; next = cursor_of q } ≡ u_read s.now c n
   unfolding bits_of
   u_at n g = ap bits_of (given_back g) ∙ ap (λ (d : Cursor). u_read s.now d n) (sym (cursor_is c h))
-
-  pub byte_at : (n : ℕ) {v : ℕ} → Gives (u_parsed n) (reader_at s c) q (Ok v) → record { value = v; next = cursor_of q } ≡ byte_read s.now c n
-  byte_at n {v} g = byte-is s.now c n (record { value = v; next = cursor_of q }) (u_at n g)
 
   pub ue_at : {v : ℕ} → Gives ue_parsed (reader_at s c) q (Ok v) → record { value = v; next = cursor_of q } ≡ ue_read s.now c
   unfolding bits_of

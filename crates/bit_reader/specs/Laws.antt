@@ -1,15 +1,13 @@
 -- Laws of the readers' definitions: each way that a reader comes to its answer.
 use Rattle.std.specs.Prelude.{ℕ, zero, suc, ◌+◌, ◌-◌, ◌*◌, ◌/◌, ◌%◌, ◌^◌, ◌≤◌, ◌<◌, ◌≡◌, refl, List, Bool, true, false, cond, ltb, eqb, ℤ}
-use Rattle.std.proofs.Common.{sym, ap, ◌∙◌, arith, pow-suc, mod-eq_of_lt, pow_mono, pow_pos, SFits, to_z, of_z, to_z-of_z}
+use Rattle.std.proofs.Common.{sym, ap, ◌∙◌, arith, pow-suc, pow_mono, pow_pos, SFits, to_z, of_z, to_z-of_z}
 use Rattle.std.specs.Int.{w32}
 use borrow.Author.Tests.{lt-ltb, le-ltb, eq-eqb, ne_eqb, ltb-true, eqb-true}
-use Rattle.codes.specs.Bytes.{bit_count, bit_at, bits_at, bits_none, bits-one, bits-lt, bits_past}
+use Rattle.codes.specs.Bytes.{bit_count, bit_at, bits_at, bits_none, bits-lt, bits_past}
 use Rattle.codes.specs.ExpGolomb.{signed_of}
 use Rattle.bit_reader.specs.declared.Cursor.{Cursor}
 use Rattle.bit_reader.specs.declared.BitsRead.{BitsRead}
-use Rattle.bit_reader.specs.declared.ByteRead.{ByteRead}
-use Rattle.bit_reader.specs.declared.SignedRead.{SignedRead}
-use Rattle.bit_reader.specs.Reading.{cursor_at, refusal, unless_refused, onward, u_read, byte_read, stops, zeros_at, ue_after, ue_within, ue_read, se_read, trailing_read, demanded, byte_or, bits_or, signed_or}
+use Rattle.bit_reader.specs.Reading.{cursor_at, refusal, unless_refused, onward, u_read, stops, zeros_at, ue_after, ue_within, ue_read, se_read, trailing_read, demanded}
 
 -- what holds of both outcomes of a test
 by-test : (P : BitsRead → Type 0) (t : Bool) (x y : BitsRead) → (t ≡ true → P x) → (t ≡ false → P y) → P (cond t x y)
@@ -66,33 +64,10 @@ u_past s c n h l =
     ap (λ (d : Cursor). record { value = 0; next = d }) (cursor_is c h)
     ∙ u-made s c n 0 c.at h (sym (bits_past s c.at n l)) (sym (onward_past s c.at n l))
 
--- as a byte
-pub byte-is : (s : List ℕ) (c : Cursor) (n : ℕ) (r : BitsRead) → r ≡ u_read s c n → record { value = r.value; next = r.next } ≡ byte_read s c n
-unfolding byte_read
-byte-is s c n r e = rw e
-
-pub flag-made : (s : List ℕ) (c : Cursor) (v : ℕ) → c.refused ≡ 0 → c.at < bit_count s → v ≡ bit_at s c.at
-    → record { value = v; next = cursor_at (c.at + 1) } ≡ byte_read s c 1
-flag-made s c v h l e =
-    byte-is s c 1 (record { value = v; next = cursor_at (c.at + 1) })
-    (u-made s c 1 v (c.at + 1) h (e ∙ sym (bits-one s c.at)) (sym (onward-is s c.at 1 (omega arith))))
-
-pub flag_stays : (s : List ℕ) (c : Cursor) → (c.refused ≡ 0 → ⊥) → record { value = 0; next = c } ≡ byte_read s c 1
-flag_stays s c h = byte-is s c 1 (record { value = 0; next = c }) (u_stays s c 1 h)
-
-pub flag_past : (s : List ℕ) (c : Cursor) → c.refused ≡ 0 → bit_count s ≤ c.at → record { value = 0; next = c } ≡ byte_read s c 1
-flag_past s c h l = byte-is s c 1 (record { value = 0; next = c }) (u_past s c 1 h l)
-
 -- a value of n bits
 pub u-below : (s : List ℕ) (c : Cursor) (n : ℕ) → (u_read s c n).value < 2 ^ n
 unfolding u_read unless_refused
 u-below s c n = by-test (λ r. r.value < 2 ^ n) (eqb c.refused 0) _ _ (λ _. bits-lt s c.at n) (λ _. pow_pos n)
-
--- a byte from a number of at most 8 bits
-pub small-made : (s : List ℕ) (c : Cursor) (n : ℕ) (r : BitsRead) → n ≤ 8 → r ≡ u_read s c n → record { value = r.value % 256; next = r.next } ≡ byte_read s c n
-small-made s c n r h e =
-    let l : r.value < 256 = omega (arith, ap (λ (x : BitsRead). x.value) e, u-below s c n, pow_mono {i = n} {j = 8} h) in
-    ap (λ (v : ℕ). record { value = v; next = r.next }) (mod-eq_of_lt l) ∙ byte-is s c n r e
 
 -- ---- runs of zeros
 pub zeros-none : (s : List ℕ) (at f : ℕ) → stops s at ≡ true → zeros_at s at f ≡ 0
@@ -205,7 +180,7 @@ module _ (s : List ℕ) (c : Cursor) where
   trailing-made h l e z =
       rw (eq-eqb c.refused 0 h, lt-ltb c.at (bit_count s) l, eq-eqb (bit_at s c.at) 1 e, eq-eqb (bits_at s (c.at + 1) (7 - c.at % 8)) 0 z)
 
--- ---- tests, and parts that may be absent
+-- ---- tests
 pub demanded-true : (ok : Bool) (n : ℕ) (c : Cursor) → ok ≡ true → demanded ok n c ≡ c
 unfolding demanded
 demanded-true ok n c e = rw e
@@ -218,27 +193,3 @@ demanded-refused false n c h = rw (ne_eqb c.refused 0 h)
 pub demanded-false : (ok : Bool) (n : ℕ) (c : Cursor) → ok ≡ false → c.refused ≡ 0 → demanded ok n c ≡ refusal c n
 unfolding demanded
 demanded-false ok n c e h = rw (e, eq-eqb c.refused 0 h)
-
-pub bits-coded : (on : Bool) (r : BitsRead) (v : ℕ) (c : Cursor) → on ≡ true → bits_or on r v c ≡ r
-unfolding bits_or
-bits-coded on r v c e = rw e
-
-pub bits-absent : (on : Bool) (r : BitsRead) (v : ℕ) (c : Cursor) → on ≡ false → bits_or on r v c ≡ record { value = v; next = c }
-unfolding bits_or
-bits-absent on r v c e = rw e
-
-pub byte-coded : (on : Bool) (r : ByteRead) (v : ℕ) (c : Cursor) → on ≡ true → byte_or on r v c ≡ r
-unfolding byte_or
-byte-coded on r v c e = rw e
-
-pub byte-absent : (on : Bool) (r : ByteRead) (v : ℕ) (c : Cursor) → on ≡ false → byte_or on r v c ≡ record { value = v; next = c }
-unfolding byte_or
-byte-absent on r v c e = rw e
-
-pub signed-coded : (on : Bool) (r : SignedRead) (v : ℤ) (c : Cursor) → on ≡ true → signed_or on r v c ≡ r
-unfolding signed_or
-signed-coded on r v c e = rw e
-
-pub signed-absent : (on : Bool) (r : SignedRead) (v : ℤ) (c : Cursor) → on ≡ false → signed_or on r v c ≡ record { value = v; next = c }
-unfolding signed_or
-signed-absent on r v c e = rw e

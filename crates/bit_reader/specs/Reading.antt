@@ -1,11 +1,10 @@
 -- What the readers give: u(n), ue(v) and se(v) of H.266 7.2 and 9.2, and rbsp_trailing_bits() of 7.3.2.
 -- Reading past the end gives 0 bits, and the place stays at the end (docs/BEHAVIOUR.md).
-use Rattle.std.specs.Prelude.{ℕ, zero, suc, ◌+◌, ◌-◌, ◌*◌, ◌/◌, ◌%◌, ◌^◌, min, max, List, Bool, true, false, cond, ltb, eqb, ℤ}
+use Rattle.std.specs.Prelude.{ℕ, zero, suc, ◌+◌, ◌-◌, ◌*◌, ◌/◌, ◌%◌, ◌^◌, min, max, List, Bool, true, false, cond, ltb, eqb}
 use Rattle.codes.specs.Bytes.{bit_count, bit_at, bits_at}
 use Rattle.codes.specs.ExpGolomb.{signed_of}
 use Rattle.bit_reader.specs.declared.Cursor.{Cursor}
 use Rattle.bit_reader.specs.declared.BitsRead.{BitsRead}
-use Rattle.bit_reader.specs.declared.ByteRead.{ByteRead}
 use Rattle.bit_reader.specs.declared.SignedRead.{SignedRead}
 
 -- a cursor with no refusal
@@ -27,10 +26,6 @@ onward s at n = min (at + n) (max at (bit_count s))
 -- u(n)
 unfoldable pub u_read : List ℕ → Cursor → ℕ → BitsRead
 u_read s c n = unless_refused c (record { value = bits_at s c.at n; next = cursor_at (onward s c.at n) })
-
--- u(n) of at most 8 bits, as a byte
-unfoldable pub byte_read : List ℕ → Cursor → ℕ → ByteRead
-byte_read s c n = record { value = (u_read s c n).value; next = (u_read s c n).next }
 
 -- a run of zero bits ends at a 1 bit and at the end
 unfoldable pub stops : List ℕ → ℕ → Bool
@@ -74,13 +69,3 @@ trailing_read s c =
 -- a test that refuses with n where it fails; the first refusal stays
 unfoldable pub demanded : Bool → ℕ → Cursor → Cursor
 demanded ok n c = cond ok c (cond (eqb c.refused 0) (refusal c n) c)
-
--- what was read where a part is coded, else its inferred value
-unfoldable pub bits_or : Bool → BitsRead → ℕ → Cursor → BitsRead
-bits_or on r inferred c = cond on r (record { value = inferred; next = c })
-
-unfoldable pub byte_or : Bool → ByteRead → ℕ → Cursor → ByteRead
-byte_or on r inferred c = cond on r (record { value = inferred; next = c })
-
-unfoldable pub signed_or : Bool → SignedRead → ℤ → Cursor → SignedRead
-signed_or on r inferred c = cond on r (record { value = inferred; next = c })

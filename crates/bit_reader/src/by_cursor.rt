@@ -1,8 +1,8 @@
 // The readers over a cursor by value, as C calls them. A refusal sticks: behind it they give 0 and leave the cursor.
 ghost use Rattle.std.specs.Prelude.{◌≡◌, min};
-ghost use Rattle.bit_reader.specs.Reading.{u_read, byte_read, ue_read, se_read, trailing_read};
+ghost use Rattle.bit_reader.specs.Reading.{u_read, ue_read, se_read, trailing_read};
 
-use super::{BitReader, BitsRead, ByteRead, Cursor, SignedRead};
+use super::{BitReader, BitsRead, Cursor, SignedRead};
 
 // u(n); more than 32 bits are read as 32.
 pub fn u(s: &[u8], c: Cursor, n: u32) -> BitsRead
@@ -17,48 +17,6 @@ pub fn u(s: &[u8], c: Cursor, n: u32) -> BitsRead
     };
     let value = r.u(n);
     BitsRead {
-        value,
-        next: Cursor {
-            at: r.bit_pos,
-            refused: 0,
-        },
-    }
-}
-
-// u(n) of at most 8 bits; more are read as 8.
-pub fn small_u(s: &[u8], c: Cursor, n: u32) -> ByteRead
-    ensures { result ≡ byte_read s.now c (min n 8) }
-{
-    if c.refused != 0 {
-        return ByteRead { value: 0, next: c };
-    }
-    let mut r = BitReader {
-        bytes: s,
-        bit_pos: c.at,
-    };
-    let value = r.small_u(n);
-    ByteRead {
-        value,
-        next: Cursor {
-            at: r.bit_pos,
-            refused: 0,
-        },
-    }
-}
-
-// u(1).
-pub fn flag(s: &[u8], c: Cursor) -> ByteRead
-    ensures { result ≡ byte_read s.now c 1 }
-{
-    if c.refused != 0 {
-        return ByteRead { value: 0, next: c };
-    }
-    let mut r = BitReader {
-        bytes: s,
-        bit_pos: c.at,
-    };
-    let value = r.flag();
-    ByteRead {
         value,
         next: Cursor {
             at: r.bit_pos,

@@ -11,9 +11,8 @@ ghost use Rattle.bit_reader.specs.Extension.{more_rbsp_data, extension_bits};
 use refusal::Refusal;
 
 pub mod by_cursor;
-pub mod guarded;
 
-pub use by_cursor::{flag, rbsp_trailing_bits, se, small_u, u, ue};
+pub use by_cursor::{rbsp_trailing_bits, se, u, ue};
 
 // Reads from bit `bit_pos` on, counted from the high bit of the first byte.
 #[derive(Clone, Copy)]
@@ -34,13 +33,6 @@ pub struct Cursor {
 #[derive(Clone, Copy)]
 pub struct BitsRead {
     pub value: u32,
-    pub next: Cursor,
-}
-
-#[repr(C)]
-#[derive(Clone, Copy)]
-pub struct ByteRead {
-    pub value: u8,
     pub next: Cursor,
 }
 

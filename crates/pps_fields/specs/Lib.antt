@@ -1,4 +1,3 @@
-pub mod FieldReads
 pub mod ListReads
 pub mod Sizes
 pub mod Axis

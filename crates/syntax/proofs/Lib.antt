@@ -1,7 +1,6 @@
 pub mod Elements
 pub mod Examples
 pub mod Once
-pub mod ReadSteps
 pub mod Round
 pub mod PutSteps
 pub mod StopSteps

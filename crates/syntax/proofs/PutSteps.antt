@@ -2,7 +2,7 @@
 use Rattle.std.specs.Prelude.{ℕ, ◌<◌, ◌≡◌, List, [], Bool, true, false, Result}
 use Rattle.std.specs.Result.{IsErrAnd}
 use Rattle.std.proofs.Common.{sym, ap, ap₂, ◌∙◌}
-use Rattle.codes.specs.Symbols.{Symbol, check, check-none}
+use Rattle.codes.specs.Symbols.{check}
 use Rattle.refusal.specs.declared.Refusal.{Refusal}
 use Rattle.refusal.specs.Numbers.{number}
 use Rattle.bit_writer.specs.declared.BitWriter.{BitWriter}
@@ -11,8 +11,7 @@ use Rattle.bit_writer.specs.Stop.{play_on, on_none, on_then}
 use Rattle.bit_writer.specs.Written.{written, ended}
 use Rattle.bit_writer.proofs.Ended.{at_err, refused_before}
 use Rattle.syntax.specs.Element.{Element}
-use Rattle.syntax.specs.Elements.{Same, or_else}
-use Rattle.syntax.proofs.Elements.{absent}
+use Rattle.syntax.specs.Elements.{or_else}
 use Rattle.syntax.specs.Syntax.{Syntax, done, element, on_writing, on_reading, symbols_for}
 
 -- a writer followed a description of the record r

@@ -3,7 +3,6 @@ pub mod Syntax
 pub mod Round
 pub mod Elements
 pub mod Lists
-pub mod ReadSteps
 pub mod WriteSteps
 pub mod Facts
 pub mod StopSteps
