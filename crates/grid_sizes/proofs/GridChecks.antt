@@ -20,7 +20,8 @@ use Rattle.refusal.specs.declared.Refusal.TheVariants.{CtuSize, TileSizesSum}
 use Rattle.refusal.specs.Numbers.{number}
 use Rattle.refusal.proofs.Numbers.{number_above0}
 use Rattle.grid_sizes.specs.declared.GridSizes.{GridSizes}
-use Rattle.grid_sizes.specs.Answers.{grid_of_sizes, FitsTable, with_number, sizes_for, grid_sizes}
+use Rattle.refusal.specs.Answers.{with_number}
+use Rattle.grid_sizes.specs.Answers.{grid_of_sizes, FitsTable, sizes_for, grid_sizes}
 
 -- ---- the explicit sizes
 
