@@ -1,5 +1,3 @@
 pub mod EntryLaws
-pub mod RecordLaws
 pub mod SlicingLaws
 pub mod StepLaws
-pub mod TestLaws

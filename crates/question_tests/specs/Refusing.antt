@@ -1,5 +1,8 @@
 -- The number with which the slice loop is refused, turn by turn.
-use Rattle.std.specs.Prelude.{ℕ, zero, suc, ◌+◌, ◌-◌, ◌≤◌, ◌<◌, min, ◌≡◌, refl, List, [], ◌∷◌, Bool, length, take, drop}
+use Rattle.std.specs.Prelude.{ℕ, zero, suc, ◌+◌, ◌-◌, ◌≤◌, ◌<◌, min, ◌≡◌, refl, List, [], ◌∷◌, Bool, length, take, drop, Result, Ok, Err}
+use Rattle.refusal.specs.declared.Refusal.{Refusal}
+use Rattle.refusal.specs.Numbers.{number, refused as refused_as}
+use Rattle.refusal.proofs.Numbers.{number_above0}
 use Rattle.std.proofs.Common.{sym, ap, ◌∙◌, lit<, lt-ltb, le-ltb}
 use native.Mathlib.Omega.{arith}
 use Rattle.partition.specs.Checks.{fine, first_bad, number_of, number-refused, Numbered, zero-fine}
@@ -9,14 +12,13 @@ use Rattle.partition.specs.Groups.{Group}
 use Rattle.partition.specs.Walk.{Walked, refused, placed, after, row_height_of, checks_at, onward, entry_group, walk}
 use Rattle.pps_syntax.specs.SliceTables.{SliceTables, split_count, slices_from}
 use Rattle.pps_syntax.specs.WalkRefusal.{walk_refusal}
-use Rattle.pps_lent.specs.Tables.{split_tables}
 use Rattle.pps_tables.specs.declared.RectSliceEntry.{RectSliceEntry}
-use Rattle.question_tests.specs.declared.entry.EntryStep.{EntryStep}
+use Rattle.question_tests.specs.declared.entry.EntryPlace.{EntryPlace}
 use Rattle.question_tests.specs.Questions.{entries_in}
 use Rattle.slice_loop.specs.Loop.{position}
 use Rattle.question_tests.specs.Steps.{Stepped}
 use Rattle.question_tests.specs.Tables.{entry_at, entry_with}
-use Rattle.question_tests.specs.Walking.{entries_from, first_entry, place-behind, StandsAt, stands-first, stands_here, stands_after}
+use Rattle.question_tests.specs.Walking.{entries_from, first_entry, StandsAt, stands-first, stands_here, stands_after}
 
 -- every number of an entry's checks is above 0
 pub numbered-entry : (C R row : ℕ) (d : Bool) (N : ℕ) (k : Position) (e : Entry) → Numbered (entry_checks asking C R row d N k e)
@@ -87,13 +89,13 @@ module _ {g : Grid} {d : Bool} {N : ℕ} {t : SliceTables} {n slice tile precedi
   pub refusing_ends : n ≤ i → N ≤ slice → 0 ≡ all
   refusing_ends h l = sym (H.is ∙ rw (none_left h) (walk-done g d N H.at (omega (arith, H.stands.slice_is))))
 
-  module _ (more : i < n) (e : RectSliceEntry) (splits to : ℕ) (e-is : e ≡ entry_at t i) (splits-is : splits ≡ split_count (split_tables t.entries) i)
+  module _ (more : i < n) (e : RectSliceEntry) (splits to : ℕ) (e-is : e ≡ entry_at t i) (splits-is : splits ≡ split_count t i)
       (to_is : to ≡ min (length t.split_heights) (from + splits)) where
     abbrev hs : List ℕ
     hs = take (to - from) (drop from t.split_heights)
 
     behind : to ≡ min (length t.split_heights) (from + split_count t i)
-    behind = place-behind t i from to splits splits-is to_is
+    behind = to_is ∙ rw splits-is
 
     next : entries_from t i H.place (n - i) ≡ entry_with e hs ∷ entries_from t (i + 1) (H.place + split_count t i) (n - (i + 1))
     next = first_entry t i H.place n from to more H.stands.place_is behind ∙ rw e-is
@@ -101,27 +103,33 @@ module _ {g : Grid} {d : Bool} {N : ℕ} {t : SliceTables} {n slice tile precedi
     pub refusing_late : N ≤ slice → 26 ≡ all
     refusing_late l = sym (H.is ∙ rw next (walk_late g d N H.at (entry_with e hs) _ (omega (arith, H.stands.slice_is))))
 
-    module _ (go : slice < N) (r : EntryStep) (S : Stepped (columns g) (rows g) (row_height_of g tile) d N (position slice tile preceding) (entry_with e hs) r) where
+    module _ (go : slice < N) where
+      abbrev Steps : Result EntryPlace Refusal → Type 0
+      Steps r = Stepped (columns g) (rows g) (row_height_of g tile) d N (position slice tile preceding) (entry_with e hs) r
+
       here : position slice tile preceding ≡ H.at
       here = stands_here H.stands (omega arith)
 
-      number : r.refused ≡ number_of (first_bad (checks_at asking g d N H.at (entry_with e hs)))
-      number = S.number ∙ ap (λ (k : Position). number_of (first_bad (checks_at asking g d N k (entry_with e hs)))) here
+      counts : (r : Result EntryPlace Refusal) → Steps r → refused_as r ≡ number_of (first_bad (checks_at asking g d N H.at (entry_with e hs)))
+      counts r S = S.number ∙ ap (λ (k : Position). number_of (first_bad (checks_at asking g d N k (entry_with e hs)))) here
 
-      pub refusing_stops : (r.refused ≡ 0 → ⊥) → r.refused ≡ all
-      refusing_stops z = sym (H.is ∙ rw next (walk-stops g d N H.at (entry_with e hs) _ (omega (arith, H.stands.slice_is)) r.refused number z))
+      pub refusing_stops : (f : Refusal) → Steps (Err f) → number f ≡ all
+      unfolding refused_as
+      refusing_stops f S =
+          sym (H.is ∙ rw next (walk-stops g d N H.at (entry_with e hs) _ (omega (arith, H.stands.slice_is)) (number f) (counts (Err f) S) (λ z. omega (arith, number_above0 f))))
 
-      pub refusing_goes-on : r.refused ≡ 0 → Refusing g d N t n r.slice.0 r.tile.0 e.height (i + 1) to
-      refusing_goes-on z =
+      pub refusing_goes-on : (s : EntryPlace) → Steps (Ok s) → Refusing g d N t n s.slice.0 s.tile.0 s.preceding_height (i + 1) to
+      unfolding refused_as
+      refusing_goes-on s S =
           record {
             at = onward g d H.at (entry_with e hs);
             place = H.place + split_count t i;
-            stands = stands_after H.stands g d e hs (split_count t i) r.slice.0 r.tile.0 to (omega arith) (S.slice_is z) (S.tile_is z) behind;
+            stands = rw S.next.2 (stands_after H.stands g d e hs (split_count t i) s.slice.0 s.tile.0 to (omega arith) S.next.0 S.next.1 behind);
             within = omega arith;
             is =
                 H.is
                 ∙ rw next (walk-goes-on g d N H.at (entry_with e hs) _ (omega (arith, H.stands.slice_is))
-                (zero-fine (checks_at asking g d N H.at (entry_with e hs)) (numbered-entry _ _ _ d N H.at (entry_with e hs)) (sym z ∙ number)));
+                (zero-fine (checks_at asking g d N H.at (entry_with e hs)) (numbered-entry _ _ _ d N H.at (entry_with e hs)) (counts (Ok s) S)));
           }
 
   pub from-within : from ≤ length t.split_heights

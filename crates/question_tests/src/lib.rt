@@ -4,6 +4,5 @@
 mod entry;
 pub mod record;
 pub mod slicing;
-mod tested;
 pub mod tiles;
 mod walk;

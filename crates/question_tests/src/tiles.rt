@@ -6,6 +6,7 @@ use pps_tables::RectSliceEntry;
 use slice_loop::{SliceLoopCtx, TileIdx};
 
 // The tile of the next slice, where the entry's tests pass and slices are to come.
+#[tactic(auto, unfolding(crate::specs::Steps::moved_to))]
 pub fn next_tile(ctx: SliceLoopCtx, tile: TileIdx, e: RectSliceEntry) -> TileIdx
     ensures { let tiles = ctx.num_tile_rows * ctx.num_tile_columns in
         result ≡ moved_to ctx.num_tile_columns tiles ctx.delta_present tile.0 e }
