@@ -1,2 +1,3 @@
 pub mod Ctbs
 pub mod Absent
+pub mod Groups
