@@ -12,12 +12,12 @@ use Rattle.codes.specs.Bits.{to_bits, to_bits-zero}
 use Rattle.codes.specs.ExpGolomb.{floor_log2, log2_between, log2_below, ue_code, ue-code-number, code_num, se_code}
 use Rattle.codes.specs.Symbols.{putting, check, checked}
 use Rattle.bit_writer.specs.Writing.{Writing, feed, feed-append, play, play-append, play-bits, trailing_bits, finished, closed, with_refusal}
-use Rattle.codes.specs.Coded.{flag_bit, se_symbols, only_if}
+use Rattle.codes.specs.Coded.{flag_bit, se_symbols}
 use Rattle.bit_writer.specs.Stop.{play_on, on-bits, on_then}
 use Rattle.refusal.specs.declared.Refusal.{Refusal}
 use Rattle.refusal.specs.Numbers.{number}
 use Rattle.bit_writer.proofs.Ended.{feed_on, refused_before}
-use Rattle.bit_writer.proofs.Steps.{flag-low, only-on}
+use Rattle.bit_writer.proofs.Steps.{flag-low}
 
 module _ (w : Writing) where
   pub flag-made : {t : Writing} (v b : ℕ) → t ≡ play_on w (putting (b % 2 ∷ [])) → b ≡ flag_bit v → t ≡ play_on w (putting (flag_bit v ∷ []))
@@ -55,9 +55,6 @@ module _ (w : Writing) where
   pub signed-made : {t : Writing} (v : ℤ) (k : ℕ) → k ≡ code_num v → t ≡ play_on w (checked (ltb k 4294967295) 25 (ue_code k)) → t ≡ play_on w (se_symbols v)
   unfolding se_code
   signed-made v k e p = p ∙ ap (λ (n : ℕ). play_on w (checked (ltb n 4294967295) 25 (ue_code n))) e
-
-  pub signed-only : {t : Writing} (on : Bool) (u v : ℤ) → u ≡ v → t ≡ play w (se_symbols u) → on ≡ true → t ≡ play w (only_if on (se_symbols v))
-  signed-only on u v e p o = p ∙ ap (λ (z : ℤ). play w (se_symbols z)) e ∙ only-on w on (se_symbols v) o
 
   -- ---- the end
   pub trailing-made : {t u : Writing} (n : ℕ) → w.sink.refused ≡ 0 → t ≡ play_on w (putting (1 % 2 ∷ [])) → u ≡ feed t (to_bits (7 - n % 8) 0) → u ≡ play_on w (putting (trailing_bits n))

@@ -6,7 +6,7 @@ use mathlib.Core.List.{List, [], ◌∷◌}
 use mathlib.Core.Path.{◌≡◌, refl, sym, ap, ap₂, ◌∙◌}
 use lib.ListN.{set}
 use lib.Dec.{eqb}
-use borrow.Author.Tests.{eqb-true, ne_eqb}
+use borrow.Author.Tests.{eqb-true}
 use Rattle.codes.specs.Symbols.{Symbol, refuse, first, first-left, first-right, putting, check, check-true}
 use Rattle.nal.specs.Escape.{needs_escape, zero_run, escape_end}
 use Rattle.nal.specs.Laws.{escape_byte_plain, escape_byte-escaped, escape_run_plain, escape_run-escaped, escape_end-none, escape_end_three}
@@ -15,7 +15,7 @@ use Rattle.bit_writer.specs.Stop.{play_on, on-bits, on_none, on-check}
 use Rattle.bit_writer.specs.Written.{written}
 use Rattle.bit_writer.specs.Writing.{Writing, place, joined, holding, behind_byte, put_raw, put_raws, coded, coded_run, put_byte, put_bit, finished, with_refusal, step, play}
 use Rattle.bit_writer.specs.Chunks.{bit_open, bit-whole}
-use Rattle.codes.specs.Coded.{flag_bit, only_if}
+use Rattle.codes.specs.Coded.{flag_bit}
 
 -- ---- bytes
 pub raw_made : (w : BitWriter) (o l : List ℕ) (b n : ℕ) → l ≡ set o w.put b → n ≡ min (2 ^ 63) (w.put + 1)
@@ -92,40 +92,15 @@ check-failed w n = split (eqb n 0) refl
     split true e = ap (with_refusal w) (ap (first w.sink.refused) (eqb-true n 0 e) ∙ first-right w.sink.refused)
     split false e = refl
 
-first_stays : (r n : ℕ) → (r ≡ 0 → ⊥) → r ≡ first r n
-unfolding first
-first_stays r n h = rw (ne_eqb r 0 h)
-
-module _ (w : Writing) (ok : Bool) (n : ℕ) where
-  pub demand_met : ok ≡ true → w ≡ play w (check ok n)
-  unfolding play
-  demand_met e = ap (play w) (sym (check-true ok n e))
-
-  failed : ok ≡ false → with_refusal w (first w.sink.refused n) ≡ play w (check ok n)
-  failed e = check-failed w n ∙ ap (λ (t : Bool). play w (check t n)) (sym e)
-
-  pub demand_late : ok ≡ false → (w.sink.refused ≡ 0 → ⊥) → w ≡ play w (check ok n)
-  demand_late e h = ap (with_refusal w) (first_stays w.sink.refused n h) ∙ failed e
-
-  pub demand_failed : ok ≡ false → w.sink.refused ≡ 0 → with_refusal w n ≡ play w (check ok n)
-  demand_failed e h = ap (with_refusal w) (sym (ap (λ (r : ℕ). first r n) h ∙ first-left n)) ∙ failed e
-
 -- ---- a test whose outcome is a result
 module _ (w : Writing) (ok : Bool) (n : ℕ) where
   pub test_met : ok ≡ true → w ≡ play_on w (check ok n)
   test_met e = sym (ap (play_on w) (check-true ok n e) ∙ on_none w)
 
   pub test_failed : ok ≡ false → w.sink.refused ≡ 0 → with_refusal w n ≡ play_on w (check ok n)
-  test_failed e h = demand_failed w ok n e h ∙ sym (on-check w ok n)
-
--- ---- a part that is written or not
-module _ (w : Writing) (on : Bool) (xs : List Symbol) where
-  pub only-on : on ≡ true → play w xs ≡ play w (only_if on xs)
-  only-on e = ap (λ (t : Bool). play w (only_if t xs)) (sym e)
-
-  pub only-off : on ≡ false → w ≡ play w (only_if on xs)
-  unfolding play
-  only-off e = ap (λ (t : Bool). play w (only_if t xs)) (sym e)
+  test_failed e h =
+      ap (with_refusal w) (sym (ap (λ (r : ℕ). first r n) h ∙ first-left n))
+      ∙ check-failed w n ∙ ap (λ (t : Bool). play w (check t n)) (sym e) ∙ sym (on-check w ok n)
 
 pub flag-low : (v : ℕ) → flag_bit v % 2 ≡ flag_bit v
 flag-low v = split (eqb v 0)

@@ -1,19 +1,17 @@
 // A writer as the C interface knows it: it goes in and comes back by value, with the number of its first refusal. Bits
 // go on being put after a refusal.
-ghost use Rattle.std.specs.Prelude.{◌≡◌, true, List, ℕ, [], ◌∷◌, ◌%◌, ◌≤◌, min, ltb};
-ghost use Rattle.std.proofs.lemmas.List.Edits.{sets};
+ghost use Rattle.std.specs.Prelude.{◌≡◌, [], ◌∷◌, ◌%◌, ◌≤◌, min, ltb};
 ghost use Rattle.codes.specs.Bits.{to_bits};
 ghost use Rattle.codes.specs.Bytes.{bit_list};
 ghost use Rattle.codes.specs.ExpGolomb.{ue_code};
-ghost use Rattle.codes.specs.Symbols.{putting, check, checked};
-ghost use Rattle.codes.specs.Coded.{flag_bit, ue_symbols, se_symbols};
+ghost use Rattle.codes.specs.Symbols.{putting, checked};
+ghost use Rattle.codes.specs.Coded.{ue_symbols, se_symbols};
 ghost use Rattle.bit_writer.specs.Writing.{fresh, sink_over, play, closed};
 ghost use Rattle.bit_writer.specs.Written.{writer_of, sink_of};
 ghost use Rattle.bit_writer.specs.Answers.{answer_of};
 
 use super::exp_golomb::{code_num, has_code};
 use super::{BitWriter, Sink};
-use nal::ByteCount;
 use refusal::Refusal;
 
 impl From<Sink> for BitWriter {
@@ -111,100 +109,17 @@ impl Sink {
         Sink::of(w, self.refused)
     }
 
-    // What a writer answers after a run over an empty output: the refusal, 29 if the bytes need more than `room`, or
-    // their number.
-    pub fn answer(self, room: usize) -> ByteCount
+    // What a run over an empty output says of an output with that much room: the number of bytes; or the number of the
+    // refusal, 29 if they need more.
+    pub fn answer(self, room: usize) -> Result<usize, u8>
         ensures { result ≡ answer_of self room }
     {
         if self.refused != 0 {
-            return ByteCount::Refused(self.refused);
+            return Err(self.refused);
         }
         if room < self.put {
-            return ByteCount::Refused(29);
+            return Err(Refusal::OutputTooShort.number());
         }
-        ByteCount::Bytes(self.put)
+        Ok(self.put)
     }
-}
-
-pub fn start(escape: bool) -> Sink
-    ensures { result ≡ fresh escape 0 }
-{
-    Sink::new(escape)
-}
-
-pub fn start_nal(out: &mut [u8], first: u8, second: u8) -> Sink
-    ensures { sink_over result out.new ≡ sink_over (fresh true 2) (sets out.old 0 (first ∷ second ∷ [])) }
-{
-    let w = BitWriter::start_nal(out, first, second);
-    Sink::of(w, 0)
-}
-
-pub fn put_bit(w: Sink, out: &mut [u8], b: u32) -> Sink
-    ensures { sink_over result out.new ≡ play (sink_over w out.old) (putting (b % 2 ∷ [])) }
-{
-    w.put_bit(out, b)
-}
-
-pub fn put_flag(w: Sink, out: &mut [u8], v: u8) -> Sink
-    ensures { sink_over result out.new ≡ play (sink_over w out.old) (putting (flag_bit v ∷ [])) }
-{
-    let mut t = BitWriter::from(w);
-    t.put_flag(out, v);
-    Sink::of(t, w.refused)
-}
-
-pub fn put_bits(w: Sink, out: &mut [u8], value: u32, n: u32) -> Sink
-    ensures { sink_over result out.new ≡ play (sink_over w out.old) (putting (to_bits (min n 32) value)) }
-{
-    w.put_bits(out, value, n)
-}
-
-pub fn put_copy(w: Sink, out: &mut [u8], src: &[u8], from: usize, count: usize) -> Sink
-    ensures { sink_over result out.new ≡ play (sink_over w out.old) (putting (bit_list src.now from count)) }
-{
-    w.put_copy(out, src, from, count)
-}
-
-// A test: refuses with `number` where it fails, unless there is a refusal already.
-pub fn demand(w: Sink, ok: bool, number: u8) -> Sink
-    ensures { (o : List ℕ) → sink_over result o ≡ play (sink_over w o) (check ok number) }
-{
-    if ok {
-        return w;
-    }
-    if w.refused != 0 {
-        return w;
-    }
-    Sink {
-        escape: w.escape,
-        zeros: w.zeros,
-        put: w.put,
-        cur: w.cur,
-        have: w.have,
-        refused: number,
-    }
-}
-
-pub fn put_ue(w: Sink, out: &mut [u8], v: u32) -> Sink
-    ensures { sink_over result out.new ≡ play (sink_over w out.old) (ue_symbols v) }
-{
-    w.put_ue(out, v)
-}
-
-pub fn put_se(w: Sink, out: &mut [u8], v: i32) -> Sink
-    ensures { sink_over result out.new ≡ play (sink_over w out.old) (se_symbols v) }
-{
-    w.put_se(out, v)
-}
-
-pub fn close(w: Sink, out: &mut [u8]) -> Sink
-    ensures { sink_over result out.new ≡ closed (sink_over w out.old) }
-{
-    w.close(out)
-}
-
-pub fn answer(w: Sink, room: usize) -> ByteCount
-    ensures { result ≡ answer_of w room }
-{
-    w.answer(room)
 }

@@ -8,8 +8,6 @@ ghost use Rattle.bit_writer.specs.Stop.{play_on};
 ghost use Rattle.bit_writer.specs.Written.{written};
 
 use super::BitWriter;
-pub use super::by_value::put_copy;
-
 // Byte `i` as bits are counted, 0 past the end.
 fn byte_at(src: &[u8], i: usize) -> u8
     ensures { result ≡ bits_at src.now (i * 8) 8 }

@@ -7,23 +7,19 @@ ghost use Rattle.std.proofs.lemmas.List.Edits.{sets};
 ghost use Rattle.codes.specs.Bits.{to_bits};
 ghost use Rattle.codes.specs.Symbols.{putting, check};
 ghost use Rattle.refusal.specs.Numbers.{number};
-ghost use Rattle.bit_writer.specs.Writing.{fresh, sink_over, play, finished, trailing_bits, closed};
+ghost use Rattle.bit_writer.specs.Writing.{fresh, sink_over, finished, trailing_bits, closed};
 ghost use Rattle.codes.specs.Coded.{flag_bit, ue_symbols, se_symbols};
 ghost use Rattle.bit_writer.specs.Stop.{play_on};
 ghost use Rattle.bit_writer.specs.Written.{written, ended};
 
-pub use by_value::{
-    answer, close, demand, put_bit, put_bits, put_flag, put_se, put_ue, start, start_nal,
-};
 use bytes::store;
 use refusal::Refusal;
 
 mod by_value;
 mod bytes;
 mod chunks;
-pub mod copy;
+mod copy;
 mod exp_golomb;
-pub mod guarded;
 
 // Where writing stands. What refuses says so by its result, and puts nothing.
 #[derive(Clone, Copy)]

@@ -18,7 +18,8 @@ use Rattle.refusal.specs.declared.Refusal.TheVariants.{CtuSize}
 use Rattle.refusal.specs.Numbers.{number}
 use Rattle.refusal.proofs.Numbers.{number_above0}
 use Rattle.grid_sizes.specs.declared.GridSizes.{GridSizes}
-use Rattle.grid_sizes.specs.Answers.{grid_of_sizes, FitsTable, with_number, sizes_for, grid_sizes}
+use Rattle.refusal.specs.Answers.{with_number}
+use Rattle.grid_sizes.specs.Answers.{grid_of_sizes, FitsTable, sizes_for, grid_sizes}
 
 -- an axis that passes fits a table of at least the limit
 fits-table : (es : List ℕ) (total limit n count : ℕ) → (length es ≡ 0 → ⊥) → first_bad (axis_checks es total limit) ≡ fine → limit ≤ n → count ≡ length (axis_sizes es total)

@@ -1,8 +1,5 @@
 -- What the functions of this crate answer, by the definitions of `partition`.
 use Rattle.std.specs.Prelude.{List, ◌≡◌, ℕ, ◌≤◌, length, Result, Ok, Err}
-use Rattle.std.specs.Result.{result_map_both}
-use Rattle.refusal.specs.declared.Refusal.{Refusal}
-use Rattle.refusal.specs.Numbers.{number}
 use Rattle.partition.specs.Sizes.{axis_sizes, Fit}
 use Rattle.partition.specs.Grid.{Grid, max_tile_columns, max_tiles}
 use Rattle.partition.specs.Checks.{Outcome, fine, refused_with, first_bad}
@@ -21,10 +18,6 @@ pub record FitsTable (es : List ℕ) (total count n : ℕ) : Type 0 where
   pub fit : Fit es total
   pub counted : count ≡ length (axis_sizes es total)
   pub room : length (axis_sizes es total) ≤ n
-
--- An answer, its refusal by its number.
-unfoldable pub with_number : {A : Type 0} → Result A Refusal → Result A ℕ
-with_number r = result_map_both (λ x. x) number r
 
 -- The grid, or the refusal's number.
 unfoldable pub sizes_for : Outcome → Grid → Result GridSizes ℕ

@@ -9,7 +9,8 @@ use Rattle.std.proofs.Common.{sym, ◌∙◌, lit<}
 use Rattle.partition.specs.Checks.{Outcome, fine, refused_with, first_bad, number_of, Numbered, zero-fine}
 use Rattle.partition.specs.Partition.{tile_grid, explicit_checks, axis_checks, grid_checks}
 use Rattle.tile_sizes.specs.Padded.{zeros, table_of}
-use Rattle.grid_sizes.specs.Answers.{grid_of_sizes, with_number, sizes_for, grid_sizes}
+use Rattle.refusal.specs.Answers.{with_number}
+use Rattle.grid_sizes.specs.Answers.{grid_of_sizes, sizes_for, grid_sizes}
 
 -- ---- tables
 

@@ -4,7 +4,8 @@
 ghost use Rattle.std.specs.Prelude.{◌≡◌, take};
 ghost use Rattle.partition.specs.Grid.{max_tile_columns, max_tiles};
 ghost use Rattle.partition.specs.Sizes.{axis_sizes};
-ghost use Rattle.grid_sizes.specs.Answers.{FitsTable, grid_of_sizes, with_number, grid_sizes};
+ghost use Rattle.refusal.specs.Answers.{with_number};
+ghost use Rattle.grid_sizes.specs.Answers.{FitsTable, grid_of_sizes, grid_sizes};
 
 use refusal::Refusal;
 use sizes::{axis_answer, explicit_refusal, sizes_into};

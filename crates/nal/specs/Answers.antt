@@ -3,17 +3,11 @@ use Rattle.std.specs.Prelude.{ℕ, ◌≤◌, ◌<◌, cond, List, ◌≡◌, lt
 use borrow.Author.Tests.{lt-ltb, le-ltb}
 use Rattle.refusal.specs.declared.Refusal.{Refusal}
 use Rattle.refusal.specs.declared.Refusal.TheVariants.{TooLong, WorkTooShort, OutputTooShort}
-use Rattle.nal.specs.declared.ByteCount.{ByteCount}
-use Rattle.nal.specs.declared.ByteCount.TheVariants.{Bytes, Refused}
 use Rattle.tables.specs.Tables.{over}
 use Rattle.nal.specs.Escape.{unescape, escape}
 
 -- What the output holds at the end: a refusal changes nothing.
-unfoldable pub out_after : ByteCount → List ℕ → List ℕ → List ℕ
-out_after (Bytes n) bytes out = over bytes out
-out_after (Refused n) bytes out = out
-
-unfoldable pub output_after : Result ℕ Refusal → List ℕ → List ℕ → List ℕ
+unfoldable pub output_after : {E : Type 0} → Result ℕ E → List ℕ → List ℕ → List ℕ
 output_after (Ok n) bytes out = over bytes out
 output_after (Err e) bytes out = out
 

@@ -9,13 +9,6 @@ ghost use Rattle.nal.specs.Answers.{unescape_answer, unescape_out, escape_answer
 
 use refusal::Refusal;
 
-// How many bytes were put at the front of the output, or the number of a refusal as docs/BEHAVIOUR.md lists it.
-#[derive(Clone, Copy)]
-pub enum ByteCount {
-    Bytes(usize),
-    Refused(u8),
-}
-
 // The most bytes that are escaped or unescaped in one call.
 const MAX_BYTES: usize = 65535;
 

@@ -24,7 +24,8 @@ use Rattle.std.specs.Prelude.{Result}
 use Rattle.refusal.specs.declared.Refusal.{Refusal}
 use Rattle.refusal.specs.Numbers.{refused}
 use Rattle.grid_sizes.specs.declared.GridSizes.{GridSizes}
-use Rattle.grid_sizes.specs.Answers.{with_number, grid_sizes}
+use Rattle.refusal.specs.Answers.{with_number}
+use Rattle.grid_sizes.specs.Answers.{grid_sizes}
 use Rattle.grid_sizes.specs.Laws.{grid-number}
 use Rattle.bit_writer.specs.Stop.{play_on, on_none, on-append, on-check, on-refused, passed}
 use Rattle.pps_put_slices.specs.Sizes.{size_symbols, sizes_symbols}

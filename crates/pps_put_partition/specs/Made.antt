@@ -10,14 +10,11 @@ use Rattle.codes.specs.Symbols.{Symbol, putting, check, checked, check-none}
 use Rattle.bit_writer.specs.Writing.{Writing}
 use Rattle.partition.specs.Grid.{max_slices_minus1}
 use Rattle.partition.specs.Partition.{in_ctbs}
-use Rattle.syntax.specs.Elements.{flag, ue, limited, sameℕ, or_else}
-use Rattle.syntax.proofs.Elements.{flag_if}
+use Rattle.syntax.specs.Elements.{ue, limited, or_else}
 use Rattle.syntax.specs.Lists.{many}
 use Rattle.syntax.specs.Round.{and_parts}
 use Rattle.pps_syntax.specs.PartitionSyntax.{some, ctu_size, explicit, rect_flag, slices_minus1}
 use Rattle.bit_writer.specs.Stop.{play_on, on_none, on-append, on_then, on-refused, on-check, passed}
-use Rattle.syntax.specs.StopSteps.{only-on, only-off}
-use Rattle.syntax.proofs.StopSteps.{stops-or}
 use Rattle.pps_put_slices.specs.Sizes.{sizes_symbols, many-sizes}
 use Rattle.pps_put_partition.specs.Puts.{tiles_put}
 
@@ -30,12 +27,6 @@ none_before d xs {v} e z = split (eqb d.sink.refused 0) refl
     split false q = sym (ap (λ (x : Writing). x.sink.refused) (e ∙ on-refused d xs (eqb-false _ _ q))) ∙ z
 
 -- ---- flags
-pub flag-on : (w : Writing) (on : Bool) (v : ℕ) {x : Writing} → on ≡ true → x ≡ play_on w (putting (flag_bit v ∷ [])) → x ≡ play_on w ((flag_if on).symbols v)
-flag-on w on v e h = stops-or on flag sameℕ 0 v w (only-on w on (putting (flag_bit v ∷ [])) e h)
-
-pub flag-off : (w : Writing) (on : Bool) (v : ℕ) → on ≡ false → w ≡ play_on w ((flag_if on).symbols v)
-flag-off w on v e = stops-or on flag sameℕ 0 v w (only-off w on (putting (flag_bit v ∷ [])) e)
-
 pub rect-coded : (w : Writing) (several : Bool) (v : ℕ) {x : Writing} → several ≡ true → x ≡ play_on w (putting (flag_bit v ∷ [])) → x ≡ play_on w ((rect_flag several).symbols v)
 unfolding or_else
 rect-coded w several v e h = rw e h

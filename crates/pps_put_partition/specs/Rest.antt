@@ -11,7 +11,8 @@ use Rattle.refusal.specs.declared.Refusal.{Refusal}
 use Rattle.refusal.specs.Numbers.{number, refused}
 use Rattle.refusal.proofs.Numbers.{number_above0}
 use Rattle.grid_sizes.specs.declared.GridSizes.{GridSizes}
-use Rattle.grid_sizes.specs.Answers.{with_number, grid_sizes, grid_of_sizes}
+use Rattle.refusal.specs.Answers.{with_number}
+use Rattle.grid_sizes.specs.Answers.{grid_sizes, grid_of_sizes}
 use Rattle.grid_sizes.specs.Laws.{grid-sizes}
 use Rattle.pps_record.specs.declared.VvcPpsPartition.{VvcPpsPartition}
 use Rattle.syntax.specs.Elements.{or_else, is_set}

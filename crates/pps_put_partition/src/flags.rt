@@ -2,20 +2,11 @@
 ghost use Rattle.std.specs.Prelude.{◌≡◌};
 ghost use Rattle.bit_writer.specs.Stop.{play_on};
 ghost use Rattle.bit_writer.specs.Written.{written, ended};
-ghost use Rattle.syntax.proofs.Elements.{flag_if};
 ghost use Rattle.pps_syntax.specs.PartitionSyntax.{rect_flag, slices_minus1};
 
 use bit_writer::{BitWriter, test};
 use refusal::Refusal;
 use tile_sizes::MAX_NUM_SLICES_MINUS1;
-
-pub fn put_flag_if(w: &mut BitWriter, out: &mut [u8], on: bool, v: u8)
-    ensures { written w.new out.new ≡ play_on (written w.old out.old) ((flag_if on).symbols v) }
-{
-    if on {
-        w.put_flag(out, v);
-    }
-}
 
 // pps_rect_slice_flag; a single tile has 1 for it, or 26.
 pub fn put_rect(w: &mut BitWriter, out: &mut [u8], several: bool, v: u8) -> Result<(), Refusal>

@@ -10,9 +10,10 @@ ghost use Rattle.pps_syntax.specs.PartitionSyntax.{several};
 ghost use Rattle.pps_put_partition.specs.Puts.{flags_put, slices_put, rest_put};
 ghost use Rattle.pps_put_partition.specs.Rest.{flags_of};
 
-use super::flags::{put_flag_if, put_num_slices, put_rect};
+use super::flags::{put_num_slices, put_rect};
 use bit_writer::{BitWriter, test};
 use grid_sizes::GridSizes;
+use pps_put::leaves::put_flag_if;
 use pps_put_slices::put_rect_slices;
 use pps_record::VvcPpsPartition;
 use pps_tables::SliceTables;

@@ -2,7 +2,7 @@
 -- and the triples that it gives, over the tables and the work buffer that it leaves, accepts and puts exactly the bytes
 -- that reading took; `write_pps_nal` puts a unit of these bytes; and such a unit of at most 65,535 bytes is read as the
 -- same record, triples and lists again.
-use Rattle.std.specs.Prelude.{ℕ, zero, suc, ◌-◌, ◌≤◌, ◌<◌, ◌≡◌, refl, List, [], ◌∷◌, ◌++◌, Bool, cond, length, get_or, take, drop}
+use Rattle.std.specs.Prelude.{ℕ, zero, suc, ◌-◌, ◌≤◌, ◌<◌, ◌≡◌, refl, List, [], ◌∷◌, ◌++◌, Bool, cond, length, get_or, take, drop, Ok}
 use Rattle.std.proofs.Common.{sym, ◌∙◌, arith, length-take-le, le-ltb}
 use Rattle.std.proofs.Math.Path.{ap}
 use Rattle.std.proofs.Math.Bool.{true, false}
@@ -12,8 +12,7 @@ use Rattle.codes.specs.Bits.{number}
 use Rattle.codes.specs.Bytes.{bit_at, bits_at, bit_list, bit_list-number}
 use Rattle.nal.specs.Escape.{zero_run, is_escape, unescape_from, unescape, escape}
 use Rattle.nal.specs.RoundTrip.{unescape-escape}
-use Rattle.nal.specs.Answers.{out_after}
-use Rattle.nal.specs.declared.ByteCount.TheVariants.{Bytes}
+use Rattle.nal.specs.Answers.{output_after}
 use Rattle.pps_answer.specs.Answers.{accepted_pps, record_read, triples_read, answer_of}
 use Rattle.pps_answer.specs.Lending.{filled, after_fields}
 use Rattle.pps_answer.specs.ParsePps.{outcome, parse_pps}
@@ -33,12 +32,12 @@ use Rattle.pps_syntax.proofs.WrittenBack.{written_back}
 use Rattle.tables.specs.Tables.{over}
 
 -- ---- an answer of writing that refuses nothing, with room for its bytes
-done-answer : (bytes out : List ℕ) → length bytes ≤ length out → written_answer 0 bytes out ≡ Bytes (length bytes)
+done-answer : (bytes out : List ℕ) → length bytes ≤ length out → written_answer 0 bytes out ≡ Ok (length bytes)
 unfolding written_answer answered
 done-answer bytes out h = rw (le-ltb (length out) (length bytes) h)
 
 done-out : (bytes out : List ℕ) → length bytes ≤ length out → written_out 0 bytes out ≡ over bytes out
-unfolding written_out out_after
+unfolding written_out output_after
 done-out bytes out h = rw (done-answer bytes out h)
 
 -- ---- the unit of an RBSP: the header of type 16, then the escaped RBSP
@@ -112,7 +111,7 @@ module _ (rbsp : List ℕ) (a : ReadSet) (t : Lent) (work : List ℕ) (b : back.
   pub written : (nal : Bool) (out bytes : List ℕ) → bytes ≡ taken_bytes rbsp a.bytes_taken nal
       → length bytes ≤ length out
       → write_set nal (record_read a) (triples_read a) (filled a.set t) (over rbsp work) out
-      ≡ wrote (Bytes (length bytes)) (over bytes out)
+      ≡ wrote (Ok (length bytes)) (over bytes out)
   unfolding write_set
   written nal out bytes is h = rw (unrefused, bytes_back nal, ← is, done-answer bytes out h, done-out bytes out h)
 
@@ -148,7 +147,7 @@ module _ (nal work : List ℕ) (t : Lent) (pps : VvcPps) (triples : List VvcQpOf
 
   all-written : (as_nal : Bool) (out : List ℕ) → length (taken_bytes (rbsp_of nal) taken as_nal) ≤ length out
       → write_set as_nal pps triples tables left out
-      ≡ wrote (Bytes (length (taken_bytes (rbsp_of nal) taken as_nal))) (over (taken_bytes (rbsp_of nal) taken as_nal) out)
+      ≡ wrote (Ok (length (taken_bytes (rbsp_of nal) taken as_nal))) (over (taken_bytes (rbsp_of nal) taken as_nal) out)
   all-written as_nal out h =
       from u.read u.record_is u.triples_are u.work-is u.tables_are
       (written (rbsp_of nal) u.read t work (rbsp_bytes nal bytes) u.is u.long as_nal out _
@@ -162,17 +161,17 @@ module _ (nal work : List ℕ) (t : Lent) (pps : VvcPps) (triples : List VvcQpOf
 
   -- `write_pps` puts the bytes that reading took
   pub unit-written : (out : List ℕ) → taken ≤ length out
-      → write_pps pps triples tables left out ≡ wrote (Bytes taken) (over (take taken (rbsp_of nal)) out)
+      → write_pps pps triples tables left out ≡ wrote (Ok taken) (over (take taken (rbsp_of nal)) out)
   unit-written out h =
       let inside = (read_whole (rbsp_of nal) u.read u.is).trailing.inside in
       let n : length (take taken (rbsp_of nal)) ≡ taken =
       length-take-le taken (rbsp_of nal) (omega (arith, u.taken_is)) in
-      all-written false out (omega arith) ∙ ap (λ (k : ℕ). wrote (Bytes k) (over (take taken (rbsp_of nal)) out)) n
+      all-written false out (omega arith) ∙ ap (λ (k : ℕ). wrote (Ok k) (over (take taken (rbsp_of nal)) out)) n
 
   -- `write_pps_nal` puts their unit
   pub unit-written-nal : (out : List ℕ) → length (unit_of (take taken (rbsp_of nal))) ≤ length out
       → write_pps_nal pps triples tables left out
-      ≡ wrote (Bytes (length (unit_of (take taken (rbsp_of nal))))) (over (unit_of (take taken (rbsp_of nal))) out)
+      ≡ wrote (Ok (length (unit_of (take taken (rbsp_of nal))))) (over (unit_of (take taken (rbsp_of nal))) out)
   unit-written-nal out h = all-written true out h
 
   -- `parse_pps` reads that unit, over any work buffer and tables that are long enough, as the same record and triples,

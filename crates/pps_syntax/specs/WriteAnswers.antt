@@ -1,8 +1,7 @@
 -- Writing a picture parameter set (docs/BEHAVIOUR.md): what is answered, and what is left in the output. A refusal changes nothing; an acceptance changes only the bytes that it
 -- reports.
-use Rattle.std.specs.Prelude.{ℕ, Bool, true, false, cond, ◌&&◌, List}
+use Rattle.std.specs.Prelude.{ℕ, Bool, true, false, cond, ◌&&◌, List, Result}
 use Rattle.bit_writer.specs.Answers.{written_answer, written_out}
-use Rattle.nal.specs.declared.ByteCount.{ByteCount}
 use Rattle.pps_record.specs.declared.VvcPps.{VvcPps}
 use Rattle.pps_record.specs.declared.VvcQpOffsets.{VvcQpOffsets}
 use Rattle.pps_syntax.specs.FromRecord.{Lent, set_from, extension_from, tables_long, counts_fit, extension_lent}
@@ -22,10 +21,10 @@ write_bytes nal r triples t extension =
     cond nal (set_nal (set_from r triples t) (extension_from r extension)) (set_rbsp (set_from r triples t) (extension_from r extension))
 
 pub record WriteOutcome : Type 0 where
-  pub answer : ByteCount
+  pub answer : Result ℕ ℕ
   pub out : List ℕ
 
-abbrev pub wrote : ByteCount → List ℕ → WriteOutcome
+abbrev pub wrote : Result ℕ ℕ → List ℕ → WriteOutcome
 wrote answer out = record { answer = answer; out = out }
 
 -- 29 exactly where the output is shorter than the bytes

@@ -1,3 +1,4 @@
+pub mod Forms
 pub mod SetPut
 pub mod Block
 pub mod Runs

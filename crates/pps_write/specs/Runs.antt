@@ -1,28 +1,34 @@
 -- The runs of writing: one over bytes of its own, which finds the refusal and counts, and for more bytes than those one over the output.
-use Rattle.std.specs.Prelude.{ℕ, ◌+◌, ◌*◌, ◌/◌, ◌%◌, ◌^◌, ◌≤◌, ◌<◌, ◌≡◌, Bool, cond, ◌&&◌, ◌||◌, leb, length, take, drop}
+use Rattle.std.specs.Prelude.{ℕ, ◌+◌, ◌*◌, ◌/◌, ◌%◌, ◌^◌, ◌≤◌, ◌<◌, min, ◌≡◌, Bool, cond, ◌&&◌, ◌||◌, leb, length, take, drop, Result, Ok, Err, MatchResult}
+use Rattle.std.specs.Result.{IsErrAnd}
 use Rattle.std.proofs.Math.Path.{refl, sym, ap}
-use Rattle.std.proofs.Common.{ap₂, ◌∙◌, arith, take_at, eqb-true, leb-true, leb-false, le-leb}
+use Rattle.std.proofs.Common.{ap₂, ◌∙◌, arith, take_at, leb-true, leb-false, le-leb, lt-ltb, le-ltb, ne_eqb}
 use Rattle.std.proofs.Math.Bool.{true, false}
-use mathlib.Core.List.{List, [], ◌∷◌, ◌++◌, append-nil}
+use mathlib.Core.List.{List, ◌++◌}
 use Rattle.std.proofs.Math.Dec.{eqb}
 use Rattle.std.proofs.lemmas.List.Edits.{sets}
 use Rattle.std.proofs.lemmas.Bool.{lt-leb}
-use Rattle.codes.specs.Symbols.{Symbol, putting, first, first-left, first-right, refusal_in, refusal-putting}
-use Rattle.nal.specs.declared.ByteCount.{ByteCount}
-use Rattle.nal.specs.declared.ByteCount.TheVariants.{Bytes, Refused}
-use Rattle.nal.specs.Answers.{out_after}
+use Rattle.std.proofs.lemmas.Result.{err_from_is_err_and}
+use Rattle.codes.specs.Symbols.{Symbol}
+use Rattle.refusal.specs.declared.Refusal.{Refusal}
+use Rattle.refusal.specs.declared.Refusal.TheVariants.{TableTooShort, OutputTooShort}
+use Rattle.refusal.specs.Numbers.{number}
+use Rattle.refusal.specs.Answers.{with_number}
+use Rattle.refusal.proofs.Numbers.{number_above0}
+use Rattle.nal.specs.Answers.{output_after}
 use Rattle.tables.specs.Tables.{over, sets_over}
-use Rattle.bit_writer.specs.Answers.{answered, answer_of, written_answer, written_out, answer-is, fits, out-kept, out_written}
+use Rattle.bit_writer.specs.Answers.{answered, written_answer, written_out, out-kept}
 use Rattle.bit_writer.specs.Closing.{Ran, plain_ran, nal_ran}
-use Rattle.bit_writer.specs.Writing.{Writing, put_raw, put_raws, finished, trailing_bits, play, closed}
+use Rattle.bit_writer.specs.Writing.{Writing, with_refusal, play, closed}
+use Rattle.bit_writer.specs.Stop.{play_on}
+use Rattle.bit_writer.proofs.Ended.{on_refusal, on_whole}
 use Rattle.pps_record.specs.declared.VvcPps.{VvcPps}
 use Rattle.pps_record.specs.declared.VvcQpOffsets.{VvcQpOffsets}
 use Rattle.pps_syntax.specs.FromRecord.{Lent, set_from, extension_from, tables_long, counts_fit, extension_lent}
 use Rattle.pps_syntax.specs.Pps.{Pps}
 use Rattle.pps_syntax.specs.Written.{set_symbols, set_refusal, set_rbsp, set_nal}
-use Rattle.pps_write.specs.Block.{begun, set_closed}
-use Rattle.pps_write.specs.SetPut.{play-refused, set_put, put-refusal, put_whole}
 use Rattle.pps_syntax.specs.WriteAnswers.{WriteOutcome, wrote, lent_right, write_refusal, write_bytes, write_set}
+use Rattle.pps_write.specs.Block.{begun, set_of}
 
 -- ---- extension bits in the lent bytes, with no sum that passes 64 bits
 pub bits_inside : (first count len : ℕ) → leb (first / 8 + count / 8 + (first % 8 + count % 8 + 7) / 8) len ≡ leb (first + count) (len * 8)
@@ -43,103 +49,100 @@ unfolding begun
 begun_fresh true o = refl
 begun_fresh false o = refl
 
--- the trailing bits leave a refusal as it is
-raws_keep : (w : Writing) (bs : List ℕ) → (put_raws w bs).sink.refused ≡ w.sink.refused
-unfolding put_raws put_raw
-raws_keep w [] = refl
-raws_keep w (b ∷ bs) = raws_keep (put_raw w b) bs
-
-closed-refused : (w : Writing) → (closed w).sink.refused ≡ w.sink.refused
-unfolding closed finished
-closed-refused w =
-    let xs = putting (trailing_bits w.sink.have) in
-    raws_keep (play w xs) _ ∙ play-refused w xs ∙ ap (first w.sink.refused) (refusal-putting (trailing_bits w.sink.have)) ∙ first-right w.sink.refused
-
 -- where there is none, the bytes are there
 whole_ran : (nal : Bool) (s : Pps) (bs o : List ℕ) {w : Writing} → length o ≤ 2 ^ 63 → w ≡ closed (play (begun nal o) (set_symbols s bs)) → Ran w (set_refusal s bs) (cond nal (set_nal s bs) (set_rbsp s bs)) o
 unfolding begun
 whole_ran true s bs o h e = nal_ran 0x00 0x81 o (set_symbols s bs) h refl e
 whole_ran false s bs o h e = plain_ran false o (set_symbols s bs) h refl e
 
-answer_5 : (bytes out : List ℕ) → Refused 5 ≡ written_answer 5 bytes out
-unfolding written_answer answered
-answer_5 bytes out = refl
-
 front-is : (xs o : List ℕ) (n : ℕ) → n ≡ length xs → length xs ≤ length o → take n (sets o 0 xs) ≡ xs
 unfolding over
 front-is xs o n e h = ap (take n) (sets_over o xs h) ∙ take_at xs (drop (length xs) o) n (sym e)
 
-pub over-is : (xs out : List ℕ) → take (length xs) xs ++ drop (length xs) out ≡ over xs out
-unfolding over
-over-is xs out = ap (λ (l : List ℕ). l ++ drop (length xs) out) (ap (take (length xs)) (sym (append-nil xs)) ∙ take_at xs [] (length xs) refl)
-
-out-over : (k n : ℕ) (bytes out : List ℕ) → written_answer k bytes out ≡ Bytes n → over bytes out ≡ written_out k bytes out
-unfolding written_out out_after
-out-over k n bytes out e = rw e
+-- what a run leaves that puts all of these bytes over o, and counts them
+pub record PutAll (in_set : ℕ) (bytes o v : List ℕ) (n : ℕ) : Type 0 where
+  pub accepted : in_set ≡ 0
+  pub count : n ≡ min (2 ^ 63) (length bytes)
+  pub written : v ≡ sets o 0 bytes
 
 module _ (nal : Bool) (r : VvcPps) (triples : List VvcQpOffsets) (t : Lent) (bytes : List ℕ) where
   -- what the set is refused with, 5 aside
-  abbrev in_set : ℕ
+  abbrev pub in_set : ℕ
   in_set = set_refusal (set_from r triples t) (extension_from r bytes)
+
+  abbrev pub all : List ℕ
+  all = write_bytes nal r triples t bytes
 
   -- what writing answers and leaves behind the test of what is lent
   abbrev pub counted : List ℕ → WriteOutcome
-  counted out = wrote (written_answer in_set (write_bytes nal r triples t bytes) out) (written_out in_set (write_bytes nal r triples t bytes) out)
+  counted out = wrote (written_answer in_set all out) (written_out in_set all out)
 
-  run-refused : (o : List ℕ) {w : Writing} → w ≡ set_closed nal r triples t bytes o → w.sink.refused ≡ in_set
-  unfolding set_closed
-  run-refused o e =
-      let xs = set_put (set_from r triples t) (extension_from r bytes) in
-      ap (λ (x : Writing). x.sink.refused) e ∙ closed-refused (play (begun nal o) xs) ∙ play-refused (begun nal o) xs
-      ∙ ap (λ (n : ℕ). first n (refusal_in xs)) (begun_fresh nal o) ∙ first-left (refusal_in xs) ∙ put-refusal (set_from r triples t) (extension_from r bytes)
+  -- a run over the bytes o, which leaves the bytes v
+  abbrev pub SetRun : List ℕ → List ℕ → Result ℕ Refusal → Type 0
+  SetRun o v res = MatchResult res (PutAll in_set all o v) (λ e. number e ≡ in_set)
 
-  run-whole : (o : List ℕ) {w : Writing} → length o ≤ 2 ^ 63 → w ≡ set_closed nal r triples t bytes o → in_set ≡ 0 → Ran w in_set (write_bytes nal r triples t bytes) o
-  unfolding set_closed write_bytes
-  run-whole o h e z = whole_ran nal (set_from r triples t) (extension_from r bytes) o h (e ∙ ap (λ (xs : List Symbol). closed (play (begun nal o) xs)) (put_whole (set_from r triples t) (extension_from r bytes) z))
+  abbrev symbols : List Symbol
+  symbols = set_of r triples t bytes
 
-  -- ---- a run over bytes of its own, and what becomes of the output
-  module _ (out o : List ℕ) (small : length out < 2 ^ 63) {first : Writing} (ran : first ≡ set_closed nal r triples t bytes o) (room : length o ≤ 2 ^ 63) where
-    own_said : {answer : ByteCount} → answer ≡ answer_of first.sink (length out) → answer ≡ written_answer in_set (write_bytes nal r triples t bytes) out
-    unfolding answer_of written_answer answered
-    own_said e = e ∙ split (eqb in_set 0) refl
-      where
-        split : (b : Bool) → eqb in_set 0 ≡ b → answer_of first.sink (length out) ≡ written_answer in_set (write_bytes nal r triples t bytes) out
-        split true q = answer-is first in_set (write_bytes nal r triples t bytes) out o (run-whole o room ran (eqb-true in_set 0 q)) small
-        split false q = rw (run-refused o ran, q)
+  pub run-refused : (o v : List ℕ) (res : Result ℕ Refusal) (e : Refusal) (x : Writing) → IsErrAnd res (λ y. y ≡ e) → with_refusal x (number e) ≡ play_on (begun nal o) symbols → SetRun o v res
+  run-refused o v res e x i h =
+      let p = err_from_is_err_and res i in
+      rw (p.1, p.2) (ap (λ (w : Writing). w.sink.refused) h ∙ on_refusal (begun nal o) symbols (begun_fresh nal o))
 
-    pub own_refused : {answer : ByteCount} (n : ℕ) → answer ≡ answer_of first.sink (length out) → answer ≡ Refused n
-        → wrote (Refused n) out ≡ counted out
-    own_refused n e d = let a = own_said e in ap₂ wrote (sym d ∙ a) (out-kept in_set n (write_bytes nal r triples t bytes) out (sym a ∙ d))
+  pub run-done : (o : List ℕ) {x y : Writing} → length o ≤ 2 ^ 63 → x.sink.refused ≡ 0 → x ≡ play_on (begun nal o) symbols → y ≡ closed x → PutAll in_set all o y.out y.sink.put
+  unfolding write_bytes
+  run-done o l z e q =
+      let none : in_set ≡ 0 = sym (on_refusal (begun nal o) symbols (begun_fresh nal o)) ∙ sym (ap (λ (w : Writing). w.sink.refused) e) ∙ z in
+      let ran = whole_ran nal (set_from r triples t) (extension_from r bytes) o l (q ∙ ap closed (e ∙ on_whole (begun nal o) symbols (begun_fresh nal o) none)) in
+      record { accepted = none; count = ran.count; written = ran.written }
 
-    pub own_again : {answer : ByteCount} (n : ℕ) {second : Writing} → answer ≡ answer_of first.sink (length out) → answer ≡ Bytes n → second ≡ set_closed nal r triples t bytes out
-        → wrote (Bytes n) second.out ≡ counted out
-    own_again n {second} e d w =
-        let b : written_answer in_set (write_bytes nal r triples t bytes) out ≡ Bytes n = sym (own_said e) ∙ d in
-        ap₂ wrote (sym b) (out_written second in_set n (write_bytes nal r triples t bytes) out b (run-whole out (omega arith) w (fits in_set n (write_bytes nal r triples t bytes) out b).0))
+  -- ---- what becomes of the output
+  module _ (out : List ℕ) where
+    pub counted-refused : (e : Refusal) → number e ≡ in_set → wrote (with_number (Err e)) out ≡ counted out
+    unfolding with_number written_answer answered
+    counted-refused e q =
+        let n : eqb in_set 0 ≡ false = ne_eqb in_set 0 (λ z. absurd (let h = number_above0 e in omega arith)) in
+        let a : Err (number e) ≡ written_answer in_set all out = rw n (ap (λ (k : ℕ). Err k) q) in
+        ap₂ wrote a (out-kept in_set (number e) all out (sym a))
 
-    pub own_fits : {answer : ByteCount} (n : ℕ) → answer ≡ answer_of first.sink (length out) → answer ≡ Bytes n → n ≤ length out
-    own_fits n e d = let k = fits in_set n (write_bytes nal r triples t bytes) out (sym (own_said e) ∙ d) in omega (arith, k.1, k.2)
+    done : (n : ℕ) {left : List ℕ} → in_set ≡ 0 → n ≡ length all → length all ≤ length out → left ≡ over all out → wrote (with_number (Ok n)) left ≡ counted out
+    unfolding with_number written_answer answered written_out output_after
+    done n z e l f =
+        let a : Ok n ≡ written_answer in_set all out = rw (z, le-ltb (length out) (length all) l) (ap (λ (k : ℕ). Ok k) e) in
+        ap₂ wrote a (rw (← a) f)
 
-    -- the first n of its bytes, copied
-    pub own_copied : {answer : ByteCount} (n : ℕ) {left : List ℕ} → answer ≡ answer_of first.sink (length out) → answer ≡ Bytes n → n ≤ length o
-        → left ≡ take (length (take n first.out)) (take n first.out) ++ drop (length (take n first.out)) out
-        → wrote (Bytes n) left ≡ counted out
-    own_copied n {left} e d h f =
-        let wb = write_bytes nal r triples t bytes in
-        let b : written_answer in_set wb out ≡ Bytes n = sym (own_said e) ∙ d in
-        let k = fits in_set n wb out b in
-        let w = run-whole o room ran k.0 in
-        let front : take n first.out ≡ wb = ap (take n) w.written ∙ front-is wb o n k.1 (omega (arith, k.1)) in
-        ap₂ wrote (sym b) (f ∙ ap (λ (l : List ℕ). take (length l) l ++ drop (length l) out) front ∙ over-is wb out ∙ out-over in_set n wb out b)
+    module _ {o v : List ℕ} {n : ℕ} (p : PutAll in_set all o v n) where
+      pub counted-short : length out < n → wrote (with_number (Err OutputTooShort)) out ≡ counted out
+      unfolding with_number number written_answer answered
+      counted-short h =
+          let l : length out < length all = omega (arith, p.count) in
+          let a : Err 29 ≡ written_answer in_set all out = rw (p.accepted, lt-ltb (length out) (length all) l) in
+          ap₂ wrote a (out-kept in_set 29 all out (sym a))
+
+      module _ (small : length out < 2 ^ 63) (room : n ≤ length out) where
+        exact : n ≡ length all
+        exact = omega (arith, p.count)
+
+        -- the first n of its bytes, copied
+        pub counted-copied : {left : List ℕ} → n ≤ length o → left ≡ take n v ++ drop (length (take n v)) out → wrote (with_number (Ok n)) left ≡ counted out
+        unfolding over
+        counted-copied h f =
+            let front : take n v ≡ all = ap (take n) p.written ∙ front-is all o n exact (omega (arith, exact)) in
+            done n p.accepted exact (omega (arith, exact)) (f ∙ ap (λ (l : List ℕ). l ++ drop (length l) out) front)
+
+        -- all of them, put again
+        pub counted-again : (res : Result ℕ Refusal) {left : List ℕ} → SetRun out left res → wrote (with_number res) left ≡ counted out
+        counted-again (Ok m) q = done m p.accepted (omega (arith, exact, q.count)) (omega (arith, exact)) (q.written ∙ sets_over out all (omega (arith, exact)))
+        counted-again (Err e) q = absurd (let h = number_above0 e in omega (arith, p.accepted, q))
 
   -- ---- behind the test of what is lent
   module _ (out : List ℕ) {a b : Bool} (fit : a ≡ (tables_long t && counts_fit r t)) (inside : b ≡ extension_lent r bytes) where
-    pub lent_wrong : (a && b) ≡ false → wrote (Refused 5) out ≡ write_set nal r triples t bytes out
-    unfolding write_set write_refusal
+    pub lent_wrong : (a && b) ≡ false → wrote (with_number (Err TableTooShort)) out ≡ write_set nal r triples t bytes out
+    unfolding write_set write_refusal with_number number written_answer answered
     lent_wrong e =
-        let wb = write_bytes nal r triples t bytes in
         let k : lent_right r t bytes ≡ false = sym (ap₂ (λ (x y : Bool). x && y) fit inside) ∙ e in
-        rw k (ap₂ wrote (answer_5 wb out) (out-kept 5 5 wb out (sym (answer_5 wb out))))
+        let five : Err 5 ≡ written_answer 5 all out = refl in
+        rw k (ap₂ wrote five (out-kept 5 5 all out (sym five)))
 
     pub lent_well : {done : WriteOutcome} → (a && b) ≡ true → done ≡ counted out → done ≡ write_set nal r triples t bytes out
     unfolding write_set write_refusal

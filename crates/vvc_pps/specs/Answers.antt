@@ -1,19 +1,18 @@
 -- The number of a refusal, 0 where nothing is refused, and the values, for each case of an answer.
-use Rattle.std.specs.Prelude.{ℕ, ◌≡◌, List, Result, Ok, Err}
+use Rattle.std.specs.Prelude.{ℕ, ◌≡◌, refl, List, Result, Ok, Err}
 use Rattle.std.proofs.Common.{ap, ◌∙◌}
 use Rattle.refusal.specs.declared.Refusal.{Refusal}
 use Rattle.refusal.specs.Numbers.{number}
+use Rattle.refusal.specs.Answers.{with_number}
 use Rattle.h266.specs.declared.VvcNalHeader.{VvcNalHeader}
-use Rattle.nal.specs.declared.ByteCount.{ByteCount}
-use Rattle.nal.specs.declared.ByteCount.TheVariants as count
 use Rattle.pps_syntax.specs.WriteAnswers.{WriteOutcome, wrote}
 use Rattle.vvc_pps.specs.declared.VvcByteCount.{VvcByteCount}
 use Rattle.vvc_pps.specs.declared.VvcNalHeaderRead.{VvcNalHeaderRead}
 use Rattle.vvc_pps.specs.declared.VvcUeSize.{VvcUeSize}
 
-abbrev pub byte_count : ByteCount → VvcByteCount
-byte_count (count.Bytes n) = record { refused = 0; bytes = n }
-byte_count (count.Refused k) = record { refused = k; bytes = 0 }
+abbrev pub byte_count : Result ℕ ℕ → VvcByteCount
+byte_count (Ok n) = record { refused = 0; bytes = n }
+byte_count (Err k) = record { refused = k; bytes = 0 }
 
 abbrev pub count_of : Result ℕ Refusal → VvcByteCount
 count_of (Ok n) = record { refused = 0; bytes = n }
@@ -50,6 +49,11 @@ abbrev pub written_held : WriteOutcome → HeldWritten
 written_held o = held_written (byte_count o.answer) o.out
 
 -- ---- how code comes to it
-pub written_held_lem : (r : VvcByteCount) (n : ByteCount) (out : List ℕ) (all : WriteOutcome)
-    → r ≡ byte_count n → wrote n out ≡ all → held_written r out ≡ written_held all
-written_held_lem r n out all p q = ap (λ (a : VvcByteCount). held_written a out) p ∙ ap written_held q
+numbered : (r : Result ℕ Refusal) → count_of r ≡ byte_count (with_number r)
+unfolding with_number
+numbered (Ok n) = refl
+numbered (Err e) = refl
+
+pub written_held_lem : (r : VvcByteCount) (n : Result ℕ Refusal) (out : List ℕ) (all : WriteOutcome)
+    → r ≡ count_of n → wrote (with_number n) out ≡ all → held_written r out ≡ written_held all
+written_held_lem r n out all p q = ap (λ (a : VvcByteCount). held_written a out) (p ∙ numbered n) ∙ ap written_held q

@@ -25,7 +25,6 @@ pub mod writing;
 use bit_reader::{BitsRead, Cursor, SignedRead};
 use bit_writer::Sink;
 use h266::VvcNalHeader;
-use nal::ByteCount;
 use refusal::Refusal;
 
 // include/vvc_pps.h and CHANGELOG.md have the same numbers.
@@ -76,21 +75,6 @@ impl From<Result<usize, Refusal>> for VvcByteCount {
                 bytes: 0,
             },
         }
-    }
-}
-
-fn of_byte_count(c: ByteCount) -> VvcByteCount
-    ensures { result ≡ byte_count c }
-{
-    match c {
-        ByteCount::Bytes(n) => VvcByteCount {
-            refused: 0,
-            bytes: n,
-        },
-        ByteCount::Refused(k) => VvcByteCount {
-            refused: k,
-            bytes: 0,
-        },
     }
 }
 
@@ -199,14 +183,14 @@ pub extern "C" fn vvc_extension_bits(s: &[u8], at: usize) -> usize
 pub extern "C" fn vvc_sink(escape: bool) -> Sink
     ensures { result ≡ fresh escape 0 }
 {
-    bit_writer::start(escape)
+    Sink::new(escape)
 }
 
 #[unsafe(no_mangle)]
 pub extern "C" fn vvc_put_bit(w: Sink, out: &mut [u8], bit: u32) -> Sink
     ensures { sink_over result out.new ≡ play (sink_over w out.old) (putting (bit % 2 ∷ [])) }
 {
-    bit_writer::put_bit(w, out, bit)
+    w.put_bit(out, bit)
 }
 
 #[unsafe(no_mangle)]
@@ -214,21 +198,21 @@ pub extern "C" fn vvc_put_bits(w: Sink, out: &mut [u8], value: u32, n: u32) -> S
     ensures { sink_over result out.new
         ≡ play (sink_over w out.old) (putting (to_bits (min n 32) value)) }
 {
-    bit_writer::put_bits(w, out, value, n)
+    w.put_bits(out, value, n)
 }
 
 #[unsafe(no_mangle)]
 pub extern "C" fn vvc_put_ue(w: Sink, out: &mut [u8], v: u32) -> Sink
     ensures { sink_over result out.new ≡ play (sink_over w out.old) (ue_symbols v) }
 {
-    bit_writer::put_ue(w, out, v)
+    w.put_ue(out, v)
 }
 
 #[unsafe(no_mangle)]
 pub extern "C" fn vvc_put_se(w: Sink, out: &mut [u8], v: i32) -> Sink
     ensures { sink_over result out.new ≡ play (sink_over w out.old) (se_symbols v) }
 {
-    bit_writer::put_se(w, out, v)
+    w.put_se(out, v)
 }
 
 // The bits of other bytes, from bit `from` on.
@@ -243,7 +227,7 @@ pub extern "C" fn vvc_put_copy(
     ensures { sink_over result out.new
         ≡ play (sink_over w out.old) (putting (bit_list bytes.now from count)) }
 {
-    bit_writer::copy::put_copy(w, out, bytes, from, count)
+    w.put_copy(out, bytes, from, count)
 }
 
 // rbsp_trailing_bits(), and the end of an escaped payload.
@@ -251,7 +235,7 @@ pub extern "C" fn vvc_put_copy(
 pub extern "C" fn vvc_close(w: Sink, out: &mut [u8]) -> Sink
     ensures { sink_over result out.new ≡ closed (sink_over w out.old) }
 {
-    bit_writer::close(w, out)
+    w.close(out)
 }
 
 // What a sink says of an output of so many bytes: a refusal, 29, or the bytes put.
@@ -259,5 +243,8 @@ pub extern "C" fn vvc_close(w: Sink, out: &mut [u8]) -> Sink
 pub extern "C" fn vvc_sink_answer(w: Sink, room: usize) -> VvcByteCount
     ensures { result ≡ byte_count (answer_of w room) }
 {
-    of_byte_count(bit_writer::answer(w, room))
+    match w.answer(room) {
+        Ok(put) => VvcByteCount { refused: 0, bytes: put },
+        Err(refused) => VvcByteCount { refused, bytes: 0 },
+    }
 }

@@ -5,9 +5,9 @@ ghost use Rattle.pps_syntax.specs.WriteAnswers.{write_pps, write_pps_nal};
 ghost use Rattle.pps_tables.specs.Parameters.{before};
 ghost use Rattle.vvc_pps.specs.Answers.{held_written, written_held};
 
-use crate::{VvcByteCount, of_byte_count};
+use crate::VvcByteCount;
 use pps_record::{VvcPps, VvcQpOffsets};
-use pps_tables::ENTRY_LEN;
+use pps_tables::{ENTRY_LEN, LentTables, SliceTables};
 
 #[repr(C)]
 #[derive(Clone, Copy)]
@@ -32,18 +32,17 @@ pub extern "C" fn vvc_write_pps(
         held_written result out.new
         ≡ written_held (write_pps pps triples.triples given extension.now out.old) }
 {
-    let six = triples.triples;
-    of_byte_count(pps_write::write_pps(
-        pps,
-        six,
+    let tables = LentTables {
         subpic_ids,
         tile_column_widths,
         tile_row_heights,
-        entries,
-        split_heights,
-        extension,
-        out,
-    ))
+        slices: SliceTables {
+            entries,
+            split_heights,
+        },
+    };
+    let answer = pps_write::write_pps(&pps, &triples.triples, tables, extension, out);
+    VvcByteCount::from(answer)
 }
 
 // The NAL unit, with its header.
@@ -63,16 +62,15 @@ pub extern "C" fn vvc_write_pps_nal(
         held_written result out.new
         ≡ written_held (write_pps_nal pps triples.triples given extension.now out.old) }
 {
-    let six = triples.triples;
-    of_byte_count(pps_write::write_pps_nal(
-        pps,
-        six,
+    let tables = LentTables {
         subpic_ids,
         tile_column_widths,
         tile_row_heights,
-        entries,
-        split_heights,
-        extension,
-        out,
-    ))
+        slices: SliceTables {
+            entries,
+            split_heights,
+        },
+    };
+    let answer = pps_write::write_pps_nal(&pps, &triples.triples, tables, extension, out);
+    VvcByteCount::from(answer)
 }

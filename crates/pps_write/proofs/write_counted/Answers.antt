@@ -1,43 +1,29 @@
-use Prim.Native.Nat.{◌^◌, ◌<◌}
-use mathlib.Core.Path.{refl, sym, ◌∙◌}
+use Prim.Native.Nat.{◌<◌, ◌^◌}
 use native.Mathlib.Omega.{arith}
-use lib.ListN.{length, take}
-use lib.Seq.{length-take-le}
-use Rattle.pps_syntax.specs.FromRecord.{lent}
-use Rattle.pps_syntax.specs.SliceTables.{slice_tables}
-use Rattle.tables.specs.Tables.{over}
-use Rattle.pps_write.specs.Runs.{own_refused, own_again, own_fits, own_copied, over-is}
+use lib.ListN.{length}
+use Rattle.std.proofs.lemmas.Result.{err_from_is_err_and}
+use Rattle.pps_tables.specs.Lent.{lent_of}
+use Rattle.pps_write.specs.Forms.{is_nal}
+use Rattle.pps_write.specs.Runs.{counted-refused, counted-short, counted-copied, counted-again}
 use Rattle.pps_write.proofs.write_counted.Goals as goal
 
-pub slice_bounds-copy_front-end : goal.slice_bounds-copy_front-end
-slice_bounds-copy_front-end c = omega (arith, length-take-le c.in-Bytes.count c.put_set-first.new.out (omega (arith, c.put_set-first.auto.out)))
+pub returns-in_err-count : goal.returns-in_err-count
+returns-in_err-count c =
+    let a = c.args in
+    let p = err_from_is_err_and c.from_residual.result c.from_residual.ensures.1 in
+    rw (p.1, p.2) (counted-refused (is_nal a.form) a.pps.now a.triples.now (lent_of a.tables) a.extension.now a.out.now c.in_err-count.field-0.0 c.in_err-count.ensures)
 
-pub copy_front-requires : goal.copy_front-requires
-copy_front-requires c = let a = c.args in
-    let t = lent a.subpic_ids.now a.tile_column_widths.now a.tile_row_heights.now (slice_tables a.entries.now a.split_heights.now) in
-    let o = a.out.now in
-    let small : length o < 2 ^ 63 = omega (arith, c.well_formed.1.1.1.1.1.1.1.1.1.0.1) in
-    let all = own_fits a.nal a.pps a.triples t a.extension.now o _ small c.put_set-first.ensures (omega arith) _ c.in-Bytes.ensures refl in
-    omega (arith, all, length-take-le c.in-Bytes.count c.put_set-first.new.out (omega (arith, c.put_set-first.auto.out)))
+pub returns-then-room-count : goal.returns-then-room-count
+returns-then-room-count c = let a = c.args in counted-short (is_nal a.form) a.pps.now a.triples.now (lent_of a.tables) a.extension.now a.out.now c.in_ok-count.ensures c.if-room-count.true
 
 pub returns-then-count-le1024 : goal.returns-then-count-le1024
-unfolding over
-returns-then-count-le1024 c = let a = c.args in
-    let t = lent a.subpic_ids.now a.tile_column_widths.now a.tile_row_heights.now (slice_tables a.entries.now a.split_heights.now) in
-    let o = a.out.now in
-    let small : length o < 2 ^ 63 = omega (arith, c.well_formed.1.1.1.1.1.1.1.1.1.0.1) in
-    own_copied a.nal a.pps a.triples t a.extension.now o _ small c.put_set-first.ensures (omega arith) _ c.in-Bytes.ensures refl (omega arith) (c.copy_front.ensures ∙ sym (over-is (take c.in-Bytes.count c.put_set-first.new.out) o))
+returns-then-count-le1024 c =
+    let a = c.args in
+    let small : length a.out.now < 2 ^ 63 = omega arith in
+    counted-copied (is_nal a.form) a.pps.now a.triples.now (lent_of a.tables) a.extension.now a.out.now c.in_ok-count.ensures small c.if-room-count.false (omega arith) c.copy_front.ensures
 
-pub returns-in-Refused : goal.returns-in-Refused
-returns-in-Refused c = let a = c.args in
-    let t = lent a.subpic_ids.now a.tile_column_widths.now a.tile_row_heights.now (slice_tables a.entries.now a.split_heights.now) in
-    let o = a.out.now in
-    let small : length o < 2 ^ 63 = omega (arith, c.well_formed.1.1.1.1.1.1.1.1.1.0.1) in
-    own_refused a.nal a.pps a.triples t a.extension.now o _ small c.put_set-first.ensures (omega arith) _ c.in-Refused.ensures refl
-
-pub returns-else-count-le1024 : goal.returns-else-count-le1024
-returns-else-count-le1024 c = let a = c.args in
-    let t = lent a.subpic_ids.now a.tile_column_widths.now a.tile_row_heights.now (slice_tables a.entries.now a.split_heights.now) in
-    let o = a.out.now in
-    let small : length o < 2 ^ 63 = omega (arith, c.well_formed.1.1.1.1.1.1.1.1.1.0.1) in
-    own_again a.nal a.pps a.triples t a.extension.now o _ small c.put_set-first.ensures (omega arith) _ c.in-Bytes.ensures refl c.put_set.ensures
+pub returns : goal.returns
+returns c =
+    let a = c.args in
+    let small : length a.out.now < 2 ^ 63 = omega arith in
+    counted-again (is_nal a.form) a.pps.now a.triples.now (lent_of a.tables) a.extension.now a.out.now c.in_ok-count.ensures small c.if-room-count.false _ c.put_set-2.ensures

@@ -1,16 +1,14 @@
-use Rattle.pps_syntax.specs.FromRecord.{lent}
-use Rattle.pps_syntax.specs.SliceTables.{slice_tables}
+use Rattle.pps_tables.specs.Lent.{lent_of}
+use Rattle.pps_write.specs.Forms.{is_nal}
 use Rattle.pps_write.specs.Runs.{extension-inside, lent_wrong, lent_well}
 use Rattle.pps_write.proofs.write_set.Goals as goal
 
-pub returns-then-fits-inside : goal.returns-then-fits-inside
-returns-then-fits-inside c = let a = c.args in
-    let t = lent a.subpic_ids.now a.tile_column_widths.now a.tile_row_heights.now (slice_tables a.entries.now a.split_heights.now) in
-    let inside = extension-inside a.pps a.extension.now c.bits_inside.ensures in
-    lent_well a.nal a.pps a.triples t a.extension.now a.out.now c.lent_fits-fits.ensures inside c.if-fits-inside.true c.write_counted.ensures
+pub returns-then-lent_fits-inside : goal.returns-then-lent_fits-inside
+returns-then-lent_fits-inside c =
+    let a = c.args in
+    lent_well (is_nal a.form) a.pps.now a.triples.now (lent_of a.tables) a.extension.now a.out.now c.lent_fits.ensures (extension-inside a.pps.now a.extension.now c.bits_inside.ensures) c.if-lent_fits-inside.true c.write_counted.ensures
 
 pub returns : goal.returns
-returns c = let a = c.args in
-    let t = lent a.subpic_ids.now a.tile_column_widths.now a.tile_row_heights.now (slice_tables a.entries.now a.split_heights.now) in
-    let inside = extension-inside a.pps a.extension.now c.bits_inside.ensures in
-    lent_wrong a.nal a.pps a.triples t a.extension.now a.out.now c.lent_fits-fits.ensures inside c.if-fits-inside.false
+returns c =
+    let a = c.args in
+    lent_wrong (is_nal a.form) a.pps.now a.triples.now (lent_of a.tables) a.extension.now a.out.now c.lent_fits.ensures (extension-inside a.pps.now a.extension.now c.bits_inside.ensures) c.if-lent_fits-inside.false

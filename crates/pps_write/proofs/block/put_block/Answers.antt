@@ -1,21 +1,21 @@
-use mathlib.Core.List.{[]}
-use Rattle.pps_syntax.specs.FromRecord.{lent}
-use Rattle.pps_syntax.specs.SliceTables.{slice_tables}
-use Rattle.pps_put.specs.Steps.{tested}
-use Rattle.pps_write.specs.Block.{block-put, block_none, block_missing}
+use Rattle.refusal.specs.Numbers.{number}
+use Rattle.bit_writer.proofs.Ended.{stopped_at}
+use Rattle.pps_tables.specs.Lent.{lent_of}
+use Rattle.pps_write.specs.Block.{block-tested, block-put, block_none}
 use Rattle.pps_write.proofs.block.put_block.Goals as goal
 
-pub returns-then-p-eq0 : goal.returns-then-p-eq0
-returns-then-p-eq0 c = let a = c.args in
-    let t = lent [] a.tile_column_widths.now a.tile_row_heights.now (slice_tables a.entries.now a.split_heights.now) in
-    block_missing _ a.pic_width a.pic_height a.p t a.partitioned c.if-partitioned.true c.if-p-eq0.true (tested _ _ c.same-ok.ensures (c.demand-a.ensures _)) (c.demand.ensures _)
+pub returns-in_err-test : goal.returns-in_err-test
+unfolding number
+returns-in_err-test c = block-tested _ _ c.args.pps.now.partition (lent_of c.args.tables) c.args.partitioned _ (c.in_err-test.ensures.put _ _) (stopped_at _ _ _ _ _ c.from_residual.ensures.1)
 
-pub returns-then-partitioned : goal.returns-then-partitioned
-returns-then-partitioned c = let a = c.args in
-    let t = lent [] a.tile_column_widths.now a.tile_row_heights.now (slice_tables a.entries.now a.split_heights.now) in
-    block-put _ a.pic_width a.pic_height a.p t a.partitioned c.if-partitioned.true c.if-p-eq0.false (tested _ _ c.same-ok.ensures (c.demand-a.ensures _)) c.put_partition.ensures
+pub returns-then-not-partitioned : goal.returns-then-not-partitioned
+unfolding number
+returns-then-not-partitioned c =
+    block-tested _ _ c.args.pps.now.partition (lent_of c.args.tables) c.args.partitioned _ (c.in_ok-test.ensures.put _ _)
+    (block_none _ _ c.args.pps.now.partition (lent_of c.args.tables) c.args.partitioned _ c.if-not-partitioned.true)
 
 pub returns : goal.returns
-returns c = let a = c.args in
-    let t = lent [] a.tile_column_widths.now a.tile_row_heights.now (slice_tables a.entries.now a.split_heights.now) in
-    block_none _ a.pic_width a.pic_height a.p t a.partitioned c.if-partitioned.false (tested _ _ c.same-ok.ensures (c.demand-a.ensures _))
+unfolding number
+returns c =
+    block-tested _ _ c.args.pps.now.partition (lent_of c.args.tables) c.args.partitioned _ (c.in_ok-test.ensures.put _ _)
+    (block-put _ _ c.args.pps.now.partition (lent_of c.args.tables) c.args.partitioned _ c.if-not-partitioned.false c.in_ok-test.ensures.passed c.put_partition.ensures)

@@ -1,8 +1,10 @@
-use Rattle.pps_write.specs.Block.{begun-nal, begun_plain}
+use Rattle.pps_write.specs.Block.{begun}
 use Rattle.pps_write.proofs.set.begin.Goals as goal
 
-pub returns-then-nal : goal.returns-then-nal
-returns-then-nal c = begun-nal _ _ c.if-nal.true c.start_nal.ensures
+pub returns-in-Rbsp : goal.returns-in-Rbsp
+unfolding begun
+returns-in-Rbsp c = rw c.in-Rbsp.is (c.new.ensures _)
 
-pub returns : goal.returns
-returns c = begun_plain _ _ c.if-nal.false c.start.ensures
+pub returns-in-NalUnit : goal.returns-in-NalUnit
+unfolding begun
+returns-in-NalUnit c = rw c.in-NalUnit.is c.start_nal.ensures

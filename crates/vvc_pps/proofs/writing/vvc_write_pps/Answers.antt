@@ -2,4 +2,4 @@ use Rattle.vvc_pps.specs.Answers.{written_held_lem}
 use Rattle.vvc_pps.proofs.writing.vvc_write_pps.Goals as goal
 
 pub returns : goal.returns
-returns c = written_held_lem _ _ _ _ c.of_byte_count.ensures c.write_pps.ensures
+returns c = written_held_lem _ _ _ _ c.from.ensures c.write_pps-answer.ensures
