@@ -18,6 +18,8 @@ use Rattle.question_tests.specs.Questions.{entries_in}
 use Rattle.slice_loop.specs.Loop.{position}
 use Rattle.question_tests.specs.Steps.{Stepped}
 use Rattle.question_tests.specs.Tables.{entry_at, entry_with}
+use Rattle.pps_lent.specs.Places.{heights-held}
+use Rattle.pps_tables.proofs.Places.{heights_at, place_behind}
 use Rattle.question_tests.specs.Walking.{entries_from, first_entry, StandsAt, stands-first, stands_here, stands_after}
 
 -- every number of an entry's checks is above 0
@@ -89,16 +91,23 @@ module _ {g : Grid} {d : Bool} {N : ℕ} {t : SliceTables} {n slice tile precedi
   pub refusing_ends : n ≤ i → N ≤ slice → 0 ≡ all
   refusing_ends h l = sym (H.is ∙ rw (none_left h) (walk-done g d N H.at (omega (arith, H.stands.slice_is))))
 
-  module _ (more : i < n) (e : RectSliceEntry) (splits to : ℕ) (e-is : e ≡ entry_at t i) (splits-is : splits ≡ split_count t i)
-      (to_is : to ≡ min (length t.split_heights) (from + splits)) where
-    abbrev hs : List ℕ
-    hs = take (to - from) (drop from t.split_heights)
+  from-within : from ≤ length t.split_heights
+  from-within = omega (arith, H.stands.place_is)
 
-    behind : to ≡ min (length t.split_heights) (from + split_count t i)
-    behind = to_is ∙ rw splits-is
+  module _ (more : i < n) (e : RectSliceEntry) (hs : List ℕ) (e-is : e ≡ entry_at t i) (hs-is : hs ≡ take (split_count t i) (drop from t.split_heights)) where
+    abbrev to : ℕ
+    to = from + length hs
+
+    pub behind : to ≡ min (length t.split_heights) (from + split_count t i)
+    behind = ap (λ (l : List ℕ). from + length l) hs-is ∙ place_behind t.split_heights (split_count t i) from from (omega (arith, from-within))
+
+    taken : take (to - from) (drop from t.split_heights) ≡ hs
+    taken =
+        heights-held t.split_heights (split_count t i) H.place from to H.stands.place_is behind
+        ∙ sym (heights_at t.split_heights (split_count t i) H.place from H.stands.place_is) ∙ sym hs-is
 
     next : entries_from t i H.place (n - i) ≡ entry_with e hs ∷ entries_from t (i + 1) (H.place + split_count t i) (n - (i + 1))
-    next = first_entry t i H.place n from to more H.stands.place_is behind ∙ rw e-is
+    next = first_entry t i H.place n from to more H.stands.place_is behind ∙ rw (taken, e-is)
 
     pub refusing_late : N ≤ slice → 26 ≡ all
     refusing_late l = sym (H.is ∙ rw next (walk_late g d N H.at (entry_with e hs) _ (omega (arith, H.stands.slice_is))))
@@ -131,13 +140,3 @@ module _ {g : Grid} {d : Bool} {N : ℕ} {t : SliceTables} {n slice tile precedi
                 ∙ rw next (walk-goes-on g d N H.at (entry_with e hs) _ (omega (arith, H.stands.slice_is))
                 (zero-fine (checks_at asking g d N H.at (entry_with e hs)) (numbered-entry _ _ _ d N H.at (entry_with e hs)) (counts (Ok s) S)));
           }
-
-  pub from-within : from ≤ length t.split_heights
-  from-within = omega (arith, H.stands.place_is)
-
-  -- the part of the table that holds an entry's heights
-  pub part_starts : (c to : ℕ) → to ≡ min (length t.split_heights) (from + c) → from ≤ to
-  part_starts c to e = omega (arith, H.stands.place_is)
-
-pub part-ends : (l c from to : ℕ) → to ≡ min l (from + c) → to ≤ l
-part-ends l c from to e = omega arith

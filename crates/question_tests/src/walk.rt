@@ -10,7 +10,6 @@ ghost use Rattle.question_tests.specs.Questions.{entries_in};
 ghost use Rattle.question_tests.specs.Steps.{grid_before};
 
 use super::entry::{EntryPlace, entry_step};
-use pps_lent::place_after;
 use pps_tables::SliceTables;
 use refusal::Refusal;
 use slice_loop::{SliceIdx, SliceLoopCtx};
@@ -42,12 +41,9 @@ pub fn walk_refusal(
         if at.slice.0 >= n.0 {
             return Err(Refusal::Contradiction);
         }
-        let e = slices.entry(i);
-        let splits = slices.split_count(i);
-        let to = place_after(slices.split_heights.len(), from, splits);
-        let heights = &slices.split_heights[from..to];
-        at = entry_step(ctx, row_heights, at, e, heights)?;
-        from = to;
+        let heights = slices.split_heights_of(i, from);
+        at = entry_step(ctx, row_heights, at, slices.entry(i), heights)?;
+        from += heights.len();
     }
     if at.slice.0 < n.0 {
         return Err(Refusal::Contradiction);
