@@ -1,10 +1,10 @@
 -- The fronts of tables: copied, and spread in place.
-use Prim.Native.Nat.{ℕ, zero, suc, ◌+◌, ◌-◌, ◌≤◌, min}
+use Prim.Native.Nat.{ℕ, zero, suc, ◌+◌, ◌-◌, ◌≤◌, ◌<◌, min}
 use mathlib.Core.Path.{◌≡◌, refl, sym, ap, ◌∙◌}
 use mathlib.Core.List.{List, [], ◌∷◌, ◌++◌}
 use native.Mathlib.Nat.{sub-zero}
 use native.Mathlib.Omega.{arith}
-use lib.ListN.{length, take, drop, replicate, length-replicate}
+use lib.ListN.{length, take, drop, replicate, length-replicate, length-append}
 use lib.Seq.{sets, take-nil, length-take-le, length-sets}
 use mathlib.Core.Bool.{Bool, true, false}
 use lib.Dec.{leb}
@@ -15,7 +15,7 @@ use Rattle.tables.specs.Tables.{over, sets_over, sets_append}
 use Rattle.partition.specs.Grid.{max_tiles}
 use Rattle.partition.specs.Sizes.{uniform_size, axis_sizes, uniform_pos, Fit}
 use Rattle.tile_sizes.specs.Answers.{next_size}
-use Rattle.tile_sizes.specs.Left.{sizes_left}
+use Rattle.tile_sizes.specs.Left.{sizes_left, next-left, end-left}
 use Rattle.grid_sizes.proofs.Fill.{Filling}
 
 -- ---- copied
@@ -64,3 +64,22 @@ pub next_in_place : (count : ℕ) (whole : List ℕ) (u : ℕ) (old out : List �
     → Filling (take count old) whole u old out remaining j → s ≡ min (next_size (drop j (take count old)) u remaining) remaining
 next_in_place count whole u old out remaining j s e f =
     e ∙ ap (λ (l : List ℕ). min (next_size l u remaining) remaining) (drop-take j count out ∙ ap (take (count - j)) f.rest ∙ sym (drop-take j count old))
+
+module _ (es whole : List ℕ) (u : ℕ) (old out : List ℕ) (remaining j : ℕ) (f : Filling es whole u old out remaining j) where
+  written : length whole ≡ j + length (sizes_left (drop j es) u remaining)
+  written = ap length f.done ∙ length-append (take j out) (sizes_left (drop j es) u remaining) ∙ ap (λ (n : ℕ). n + length (sizes_left (drop j es) u remaining)) (length-take-le j out f.within)
+
+  -- while sizes are left, so is a part of the axis
+  pub some_left : j < length whole → 1 ≤ remaining
+  some_left h = cases (leb 1 remaining) refl
+    where
+      cases : (b : Bool) → leb 1 remaining ≡ b → 1 ≤ remaining
+      cases true q = leb-true 1 remaining q
+      cases false q = absurd (omega (arith, written, ap length (end-left (drop j es) u remaining (omega (arith, leb-false 1 remaining q)) f.fit)))
+
+  pub all_written : length whole ≤ j → remaining ≡ 0
+  all_written h = cases (leb 1 remaining) refl
+    where
+      cases : (b : Bool) → leb 1 remaining ≡ b → remaining ≡ 0
+      cases true q = absurd (omega (arith, written, ap length (next-left (drop j es) u remaining f.some (leb-true 1 remaining q) f.fit)))
+      cases false q = omega (arith, leb-false 1 remaining q)

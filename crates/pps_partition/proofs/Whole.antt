@@ -238,11 +238,11 @@ module _ (W H : ℕ) where
 
           -- what `spread` asks for
           pub spread_ready : (z.rows.count ≤ length v) × (z.rows.uniform ≡ uniform_size (take z.rows.count v)) × Fit (take z.rows.count v) z.pic_height.0
-              × (length (axis_sizes (take z.rows.count v) z.pic_height.0) ≤ length v)
+              × (z.rows.sizes ≡ length (axis_sizes (take z.rows.count v) z.pic_height.0)) × (z.rows.sizes ≤ length v)
           unfolding axis_of
           spread_ready =
               rw (front, height_is)
-              (omega (arith, same-length), sym (ap (λ (y : TileSizesRead). y.rows.uniform) S.value), rows_fit, omega (arith, same-length, rows_sized, limited.low))
+              (omega (arith, same-length), sym (ap (λ (y : TileSizesRead). y.rows.uniform) S.value), rows_fit, rows_sized, omega (arith, same-length, limited.low))
 
           module _ {w : List ℕ} (spread : w ≡ laid_over (axis_sizes (take z.rows.count v) z.pic_height.0) v) where
             laid : w ≡ laid_over (axis_sizes (rows_at p) (height_at p)) v

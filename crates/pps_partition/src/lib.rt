@@ -49,7 +49,7 @@ pub fn read_partition(
     let rows = sizes.rows;
     test_axes(columns, rows)?;
     copy_front(&row_heights, rows.count, tile_row_heights);
-    spread(&mut row_heights, rows.count, rows.uniform, sizes.pic_height);
+    spread(&mut row_heights, rows, sizes.pic_height);
     let num_tile_rows = rows.sizes as usize;
     let slicing = read_slicing(
         r,

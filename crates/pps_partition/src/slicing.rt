@@ -45,7 +45,7 @@ pub fn read_flags(r: &mut BitReader<'_>, several: bool) -> Result<SliceFlagsRead
     })
 }
 
-// The slices, where they are coded.
+// The slices, where they are coded; a call with its condition, as `ue_or`, keeps the block a straight line.
 pub fn read_coded_slices(
     r: &mut BitReader<'_>,
     coded: bool,

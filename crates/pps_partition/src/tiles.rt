@@ -36,10 +36,12 @@ pub fn read_tile_sizes(
 ) -> Result<TileSizesRead, Refusal>
     ensures gives { Gives (held_as (sizes_kept width height) (parse (tile_sizes width height))) r.old r.new result }
     ensures columns { OnOk result (column_widths.new
-        ≡ sets column_widths.old 0 (value_read (parse (tile_sizes width height)) r.old).pps_tile_column_width_minus1) }
+        ≡ sets column_widths.old 0
+        (value_read (parse (tile_sizes width height)) r.old).pps_tile_column_width_minus1) }
     ensures few { IfOk result (λ t. t.rows.count ≤ max_tiles) }
     ensures rows { OnOk result (row_heights.new
-        ≡ sets row_heights.old 0 (value_read (parse (tile_sizes width height)) r.old).pps_tile_row_height_minus1) }
+        ≡ sets row_heights.old 0
+        (value_read (parse (tile_sizes width height)) r.old).pps_tile_row_height_minus1) }
 {
     let ctu = r.small_u(2);
     if ctu > 2 {
@@ -106,20 +108,19 @@ pub fn copy_front(from: &[u32], count: u32, to: &mut [u32])
     to[..n].copy_from_slice(&from[..n]);
 }
 
-// The sizes of an axis in place of the explicit ones minus 1, which are the first `count` numbers of the table.
-pub fn spread(table: &mut [u32], count: u32, uniform: u32, total: CtbCount)
-    requires { (count ≤ length table.old) × (uniform ≡ uniform_size (take count table.old))
-        × Fit (take count table.old) total.0
-        × (length (axis_sizes (take count table.old) total.0) ≤ length table.old) }
-    ensures { table.new ≡ over (axis_sizes (take count table.old) total.0) table.old }
+// The sizes of an axis in place of the explicit ones minus 1, which are the first numbers of the table.
+pub fn spread(table: &mut [u32], axis: AxisRead, total: CtbCount)
+    requires { (axis.count ≤ length table.old) × (axis.uniform ≡ uniform_size (take axis.count table.old))
+        × Fit (take axis.count table.old) total.0
+        × (axis.sizes ≡ length (axis_sizes (take axis.count table.old) total.0))
+        × (axis.sizes ≤ length table.old) }
+    ensures { table.new ≡ over (axis_sizes (take axis.count table.old) total.0) table.old }
 {
-    let explicit = count as usize;
+    let explicit = axis.count as usize;
     let mut remaining = total.0;
-    let mut j = 0;
-    while remaining > 0 {
-        let size = next_size(&table[..explicit], uniform, j, remaining);
+    for j in 0..axis.sizes as usize {
+        let size = next_size(&table[..explicit], axis.uniform, j, remaining);
         table[j] = size;
         remaining -= size;
-        j += 1;
     }
 }

@@ -1,4 +1,5 @@
--- What holds at each turn of the slice loop over the tables: what is left to be read and put, with what is there, makes the whole.
+-- What holds at each turn of the slice loop over the tables: what is left to be read and put, with what is there,
+-- makes the whole.
 use Rattle.std.specs.Prelude.{ℕ, suc, ◌+◌, ◌-◌, ◌≤◌, ◌<◌, ◌≡◌, List, [], Bool, true, ltb, length, set, Ok, Err, refl}
 use Rattle.std.specs.Option.{unwrap_or}
 use Rattle.std.proofs.Common.{sym, ap, ap₂, subst, ◌∙◌, add-zero, arith, lt-ltb, le-ltb}

@@ -1,5 +1,5 @@
--- The parts of an entry of the slice loop (H.266 7.3.2.5) as they are read one behind the other, over plain numbers: the columns and rows of the grid, the
--- tile, its row's height; and what is kept of them.
+-- The parts of an entry of the slice loop (H.266 7.3.2.5) as they are read one behind the other, over plain numbers:
+-- the columns and rows of the grid, the tile, its row's height; and what is kept of them.
 use Rattle.std.specs.Prelude.{ℕ, ◌+◌, ◌-◌, List, [], Bool, true, false, not, cond, ◌&&◌, ◌||◌, ltb, leb, ℤ, pos, Some, None, length}
 use Rattle.std.proofs.Common.{lit<}
 use Rattle.bit_reader.specs.declared.Cursor.{Cursor}
@@ -29,8 +29,8 @@ height_part columns rows deltas t preceding = size_part (height_coded columns ro
 unfoldable pub last_of : ℕ → ℕ → List ℕ → ℕ
 last_of i row heights = i + num_slices_in_tile heights row - 1
 
--- The explicit slice heights of a tile that is split, i being the index of its first slice: 16 where their count, one of them or their sum passes the row, 17
--- where the slices pass N.
+-- The explicit slice heights of a tile that is split, i being the index of its first slice: 16 where their count, one
+-- of them or their sum passes the row, 17 where the slices pass N.
 unfoldable pub explicit_heights : ℕ → ℕ → ℕ → Syntax (List ℕ)
 explicit_heights row N i = do
   count ← limited ue (λ v. ltb v row) 16 (lit< tt) for (λ hs. length hs)
@@ -48,7 +48,8 @@ split_part false row N i = done []
 abbrev pub split_kept : Bool → ℕ → ℕ → List ℕ → SplitRead
 split_kept split row i heights = record { count = cond split (Some (length heights)) None; last = record { 0 = last_of i row heights } }
 
--- pps_tile_idx_delta_val, where it is coded: 18 where 7.4.3.5 forbids it; 19 where the walk without deltas leaves the grid with slices to come
+-- pps_tile_idx_delta_val, where it is coded: 18 where 7.4.3.5 forbids it; 19 where the walk without deltas leaves the
+-- grid with slices to come
 unfoldable pub delta_part : ℕ → ℕ → Bool → Bool → ℕ → ℕ → ℕ → Syntax ℤ
 delta_part columns tiles deltas more t width height = do
   delta ← or_else (deltas && more) se (absent sameℤ (pos 0) 0) for (λ d. d)

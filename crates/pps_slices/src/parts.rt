@@ -63,7 +63,8 @@ fn num_slices_in_tile(count: u32, sizes: u32) -> u32
     if count == 0 { 1 } else { sizes }
 }
 
-// The explicit slice heights of a tile that is split, into their table from place `from` on.
+// The explicit slice heights where the tile is split, into their table from place `from` on; a call with its condition,
+// as `ue_or`, keeps the entry a straight line.
 pub fn read_split(
     r: &mut BitReader<'_>,
     split: bool,
