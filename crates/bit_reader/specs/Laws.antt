@@ -1,13 +1,11 @@
 -- Laws of the readers' definitions: each way that a reader comes to its answer.
-use Rattle.std.specs.Prelude.{ℕ, zero, suc, ◌+◌, ◌-◌, ◌*◌, ◌/◌, ◌%◌, ◌^◌, ◌≤◌, ◌<◌, ◌≡◌, refl, List, Bool, true, false, cond, ltb, eqb, ℤ}
-use Rattle.std.proofs.Common.{sym, ap, ◌∙◌, arith, pow-suc, pow_mono, pow_pos, SFits, to_z, of_z, to_z-of_z}
-use Rattle.std.specs.Int.{w32}
+use Rattle.std.specs.Prelude.{ℕ, zero, suc, ◌+◌, ◌-◌, ◌*◌, ◌/◌, ◌%◌, ◌^◌, ◌≤◌, ◌<◌, ◌≡◌, refl, List, Bool, true, false, cond, ltb, eqb}
+use Rattle.std.proofs.Common.{sym, ap, ◌∙◌, arith, pow-suc, pow_mono, pow_pos}
 use borrow.Author.Tests.{lt-ltb, le-ltb, eq-eqb, ne_eqb, ltb-true, eqb-true}
 use Rattle.codes.specs.Bytes.{bit_count, bit_at, bits_at, bits_none, bits-lt, bits_past}
-use Rattle.codes.specs.ExpGolomb.{signed_of}
 use Rattle.bit_reader.specs.declared.Cursor.{Cursor}
 use Rattle.bit_reader.specs.declared.BitsRead.{BitsRead}
-use Rattle.bit_reader.specs.Reading.{cursor_at, refusal, unless_refused, onward, u_read, stops, zeros_at, ue_after, ue_within, ue_read, se_read, trailing_read, demanded}
+use Rattle.bit_reader.specs.Reading.{cursor_at, refusal, unless_refused, onward, u_read, stops, zeros_at, ue_after, ue_within, ue_read, trailing_read, demanded}
 
 -- what holds of both outcomes of a test
 by-test : (P : BitsRead → Type 0) (t : Bool) (x y : BitsRead) → (t ≡ true → P x) → (t ≡ false → P y) → P (cond t x y)
@@ -147,12 +145,6 @@ ue-below w s c h =
 
 pub ue-small : (s : List ℕ) (c : Cursor) → (ue_read s c).value < 4294967295
 ue-small s c = rw (ue-is s c) (omega (arith, ue-below 32 s c (omega arith)))
-
--- ---- se(v): a signed number goes through its 32 bits on the way into a field
-pub se-made : (s : List ℕ) (c : Cursor) (k : BitsRead) (v : ℤ) → k ≡ ue_read s c → v ≡ signed_of k.value → SFits w32 v
-    → record { value = to_z w32 (of_z w32 v); next = k.next } ≡ se_read s c
-unfolding se_read
-se-made s c k v e d f = rw (to_z-of_z f, d, e)
 
 -- ---- rbsp_trailing_bits()
 module _ (s : List ℕ) (c : Cursor) where

@@ -131,15 +131,13 @@ pub fn extension_bits(s: &[u8], at: usize) -> usize
     if at >= end {
         return 0;
     }
-    let mut p = end;
     let mut seen: u8 = 0;
-    while at < p {
-        let b = bit_at(s, p - 1);
+    for p in (at..end).rev() {
+        let b = bit_at(s, p);
         if seen + b == 2 {
-            return p - at;
+            return p + 1 - at;
         }
         seen += b;
-        p -= 1;
     }
     0
 }

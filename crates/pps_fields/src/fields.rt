@@ -9,6 +9,7 @@ ghost use Rattle.pps_syntax.specs.Offsets.{in_range, offset, offset_or};
 use bit_reader::BitReader;
 use refusal::Refusal;
 
+// The next three differ in what they read: at a call, a closure for it would be no plainer than the name.
 pub fn flag_or(r: &mut BitReader<'_>, on: bool, inferred: u8) -> u8
     ensures { (n : ℕ) → Gives (or_else on flag (absent sameℕ inferred n)).read r.old r.new (Ok result) }
 {
@@ -58,7 +59,7 @@ pub fn ue_at_most_or(
     }
 }
 
-// ue(v) below `bound`.
+// ue(v) below `bound`, which may be 0: so it is no limit minus 1.
 pub fn ue_below(r: &mut BitReader<'_>, bound: u32, refusal: Refusal) -> Result<u32, Refusal>
     ensures value { Gives (tested (λ v. ltb v bound) (number refusal) ue_parsed) r.old r.new result }
     ensures bound { IfOk result (λ v. v < bound) }

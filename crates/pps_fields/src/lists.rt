@@ -13,21 +13,16 @@ use super::fields::ue_below;
 use bit_reader::BitReader;
 use refusal::Refusal;
 use slice_loop::CtbCount;
+use tables::places::put;
 use tile_sizes::uniform_sizes;
 
 // Place from + i of the table becomes v; nothing, where the table is shorter.
 fn store(table: &mut [u32], from: usize, i: u32, v: u32)
     ensures { table.new ≡ set table.old (from + i) v }
 {
-    let n = table.len();
-    if n <= from {
-        return;
+    if let Some(place) = from.checked_add(i as usize) {
+        put(table, place, v);
     }
-    let k = i as usize;
-    if n - from <= k {
-        return;
-    }
-    table[from + k] = v;
 }
 
 // The explicit sizes of an axis of tiles or slices: how many there are, the size that repeats behind them, how many

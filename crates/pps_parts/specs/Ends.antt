@@ -1,5 +1,5 @@
 -- The extension bits of a set, from its flag and the cursor behind its fields.
-use Rattle.std.specs.Prelude.{ℕ, ◌≤◌, ◌≡◌, refl, List, Bool, true, false, cond, ◌&&◌, eqb}
+use Rattle.std.specs.Prelude.{ℕ, ◌≤◌, ◌≡◌, List, Bool, true, false, cond, ◌&&◌, eqb}
 use Rattle.std.proofs.Common.{arith, eq-eqb, ne_eqb}
 use Rattle.bit_reader.specs.declared.Cursor.{Cursor}
 use Rattle.bit_reader.specs.Extension.{extension_bits}
@@ -18,14 +18,6 @@ end_read flag s c = parsed (extension_at s flag c) (trailing_read s (behind_exte
 pub extension_unset : (s : List ℕ) (flag : ℕ) (c : Cursor) → flag ≡ 0 → 0 ≡ extension_at s flag c
 unfolding extension_at
 extension_unset s flag c e = rw (eq-eqb flag 0 e)
-
-and_none : (a : Bool) → (a && false) ≡ false
-and_none true = refl
-and_none false = refl
-
-pub extension-refused : (s : List ℕ) (flag : ℕ) (c : Cursor) → (c.refused ≡ 0 → ⊥) → 0 ≡ extension_at s flag c
-unfolding extension_at
-extension-refused s flag c e = rw (ne_eqb c.refused 0 e, and_none (is_set flag))
 
 pub extension-taken : (s : List ℕ) (flag : ℕ) (c : Cursor) → (flag ≡ 0 → ⊥) → c.refused ≡ 0 → extension_bits s c.at ≡ extension_at s flag c
 unfolding extension_at

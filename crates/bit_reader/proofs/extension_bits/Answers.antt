@@ -21,7 +21,7 @@ pub returns-then-seen-b-eq2 : goal.returns-then-seen-b-eq2
 returns-then-seen-b-eq2 c = let s = c.args.s.now in
     let p = c.loop-p.p in
     let more = ones-back s p (bit_count s) (omega arith) (omega arith) in
-    sym (extension-ends s c.args.at p (omega arith) (omega arith) (omega arith) (omega arith))
+    omega (arith, extension-ends s c.args.at p (omega arith) (omega arith) (omega arith) (omega arith))
 
 pub overflow_add-seen-in-loop-p : goal.overflow_add-seen-in-loop-p
 overflow_add-seen-in-loop-p c = omega (arith, bit-lt c.args.s.now (c.loop-p.p - 1))

@@ -7,6 +7,3 @@ use Rattle.bit_reader.proofs.extension_bits.Given as goal
 
 abbrev pub invariant-loop-p : goal.invariant-loop-p
 invariant-loop-p l = (l.at ≤ l.p) × (l.p ≤ bit_count l.s) × (l.seen < 2) × (l.seen ≡ ones l.s l.p (bit_count l.s - l.p))
-
-abbrev pub decreases-loop-p : goal.decreases-loop-p
-decreases-loop-p l = l.p

@@ -10,16 +10,22 @@ returns-in_err-left c = exit conf_win c.from_residual.ensures (c.flag-present.en
 
 pub returns-in_err-right : goal.returns-in_err-right
 unfolding conf_win ◌>>=◌
-returns-in_err-right c = exit conf_win c.from_residual-in_err-right.ensures (c.flag-present.ensures ⟫ (c.in_ok-left.ensures _) ⟫ stop (c.in_err-right.ensures _))
+returns-in_err-right c = exit conf_win c.from_residual-in_err-right.ensures
+    (c.flag-present.ensures ⟫ (c.in_ok-left.ensures _) ⟫ stop (c.in_err-right.ensures _))
 
 pub returns-in_err-top : goal.returns-in_err-top
 unfolding conf_win ◌>>=◌
-returns-in_err-top c = exit conf_win c.from_residual-in_err-top.ensures (c.flag-present.ensures ⟫ (c.in_ok-left.ensures _) ⟫ (c.in_ok-right.ensures _) ⟫ stop (c.in_err-top.ensures _))
+returns-in_err-top c = exit conf_win c.from_residual-in_err-top.ensures
+    (c.flag-present.ensures ⟫ (c.in_ok-left.ensures _) ⟫ (c.in_ok-right.ensures _) ⟫ stop (c.in_err-top.ensures _))
 
 pub returns-in_err-bottom : goal.returns-in_err-bottom
 unfolding conf_win ◌>>=◌
-returns-in_err-bottom c = exit conf_win c.from_residual-in_err-bottom.ensures (c.flag-present.ensures ⟫ (c.in_ok-left.ensures _) ⟫ (c.in_ok-right.ensures _) ⟫ (c.in_ok-top.ensures _) ⟫ stop (c.in_err-bottom.ensures _))
+returns-in_err-bottom c = exit conf_win c.from_residual-in_err-bottom.ensures
+    (c.flag-present.ensures ⟫ (c.in_ok-left.ensures _) ⟫ (c.in_ok-right.ensures _) ⟫ (c.in_ok-top.ensures _)
+    ⟫ stop (c.in_err-bottom.ensures _))
 
 pub returns : goal.returns
 unfolding conf_win ◌>>=◌
-returns c = follows conf_win (c.flag-present.ensures ⟫ (c.in_ok-left.ensures _) ⟫ (c.in_ok-right.ensures _) ⟫ (c.in_ok-top.ensures _) ⟫ (c.in_ok-bottom.ensures _) ⟫ end)
+returns c = follows conf_win
+    (c.flag-present.ensures ⟫ (c.in_ok-left.ensures _) ⟫ (c.in_ok-right.ensures _) ⟫ (c.in_ok-top.ensures _)
+    ⟫ (c.in_ok-bottom.ensures _) ⟫ end)

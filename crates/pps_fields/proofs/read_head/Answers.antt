@@ -13,16 +13,23 @@ none_of false b t e = ap not e
 
 pub returns-in_err-width : goal.returns-in_err-width
 unfolding head ◌>>=◌
-returns-in_err-width c = exit head c.from_residual.ensures (c.small_u-id.ensures ⟫ c.small_u-sps.ensures ⟫ c.flag-mixed.ensures ⟫ past (stop c.in_err-width.ensures))
+returns-in_err-width c = exit head c.from_residual.ensures
+    (c.small_u-id.ensures ⟫ c.small_u-sps.ensures ⟫ c.flag-mixed.ensures ⟫ past (stop c.in_err-width.ensures))
 
 pub returns-in_err-height : goal.returns-in_err-height
 unfolding head ◌>>=◌
-returns-in_err-height c = exit head c.from_residual-in_err-height.ensures (c.small_u-id.ensures ⟫ c.small_u-sps.ensures ⟫ c.flag-mixed.ensures ⟫ past (c.in_ok-width.ensures ⟫ stop c.in_err-height.ensures))
+returns-in_err-height c = exit head c.from_residual-in_err-height.ensures
+    (c.small_u-id.ensures ⟫ c.small_u-sps.ensures ⟫ c.flag-mixed.ensures ⟫ past (c.in_ok-width.ensures
+    ⟫ stop c.in_err-height.ensures))
 
 pub returns-then-width-height : goal.returns-then-width-height
 unfolding head ◌>>=◌ number
-returns-then-width-height c = follows head (c.small_u-id.ensures ⟫ c.small_u-sps.ensures ⟫ c.flag-mixed.ensures ⟫ past (c.in_ok-width.ensures ⟫ c.in_ok-height.ensures ⟫ fails (none_of _ _ _ c.if-width-height.true) refl))
+returns-then-width-height c = follows head
+    (c.small_u-id.ensures ⟫ c.small_u-sps.ensures ⟫ c.flag-mixed.ensures ⟫ past (c.in_ok-width.ensures
+    ⟫ c.in_ok-height.ensures ⟫ fails (none_of _ _ _ c.if-width-height.true) refl))
 
 pub returns : goal.returns
 unfolding head ◌>>=◌
-returns c = follows head (c.small_u-id.ensures ⟫ c.small_u-sps.ensures ⟫ c.flag-mixed.ensures ⟫ past (c.in_ok-width.ensures ⟫ c.in_ok-height.ensures ⟫ held (none_of _ _ _ c.if-width-height.false) end))
+returns c = follows head
+    (c.small_u-id.ensures ⟫ c.small_u-sps.ensures ⟫ c.flag-mixed.ensures ⟫ past (c.in_ok-width.ensures
+    ⟫ c.in_ok-height.ensures ⟫ held (none_of _ _ _ c.if-width-height.false) end))

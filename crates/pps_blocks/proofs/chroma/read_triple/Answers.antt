@@ -14,11 +14,13 @@ returns-in_err-cb c = at_exit c.from_residual.ensures.1 (holds-none offsets_of (
 
 pub returns-in_err-cr : goal.returns-in_err-cr
 unfolding triple ◌>>=◌
-returns-in_err-cr c = at_exit c.from_residual-in_err-cr.ensures.1 (holds-none offsets_of (follows (triple _) (c.in_ok-cb.ensures ⟫ stop c.in_err-cr.ensures)))
+returns-in_err-cr c = at_exit c.from_residual-in_err-cr.ensures.1 (holds-none offsets_of (follows (triple _)
+    (c.in_ok-cb.ensures ⟫ stop c.in_err-cr.ensures)))
 
 pub returns-in_err-joint : goal.returns-in_err-joint
 unfolding triple ◌>>=◌
-returns-in_err-joint c = at_exit c.from_residual-in_err-joint.ensures.1 (holds-none offsets_of (follows (triple _) (c.in_ok-cb.ensures ⟫ c.in_ok-cr.ensures ⟫ stop c.in_err-joint.ensures)))
+returns-in_err-joint c = at_exit c.from_residual-in_err-joint.ensures.1 (holds-none offsets_of (follows (triple _)
+    (c.in_ok-cb.ensures ⟫ c.in_ok-cr.ensures ⟫ stop c.in_err-joint.ensures)))
 
 pub returns : goal.returns
 unfolding triple ◌>>=◌
