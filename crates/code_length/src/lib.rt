@@ -7,14 +7,8 @@ ghost use Rattle.code_length.specs.UeSize.{ue_size_of};
 
 mod table;
 
+use refusal::Refusal;
 use table::UE_LENGTHS;
-
-// The number of bits, or the number of a refusal.
-#[derive(Clone, Copy)]
-pub enum UeSize {
-    Bits(u32),
-    Refused(u8),
-}
 
 fn tabled(v: u32) -> u8
     requires { v < 1024 }
@@ -28,18 +22,18 @@ fn by_rule(v: u32) -> u32
     requires { v < 4294967295 }
     ensures { result ≡ ue_length v }
 {
-    63 - u32::leading_zeros(v + 1) * 2
+    (v + 1).ilog2() * 2 + 1
 }
 
-// 4294967295 has no code: 25.
-pub fn ue_size(v: u32) -> UeSize
+// 4294967295 has no code.
+pub fn ue_size(v: u32) -> Result<u32, Refusal>
     ensures { result ≡ ue_size_of v }
 {
     if v < 1024 {
-        return UeSize::Bits(tabled(v) as u32);
+        return Ok(tabled(v) as u32);
     }
     if v == 4294967295 {
-        return UeSize::Refused(25);
+        return Err(Refusal::NoCode);
     }
-    UeSize::Bits(by_rule(v))
+    Ok(by_rule(v))
 }

@@ -1,25 +1,29 @@
 -- Worked examples of the NAL unit header, computed: one table, one theorem.
-use Rattle.std.specs.Prelude.{ℕ, ◌≡◌, refl, List, [], ◌∷◌, map}
+use Rattle.std.specs.Prelude.{ℕ, ◌≡◌, refl, List, [], ◌∷◌, map, Result, Ok, Err}
 use Rattle.codes.specs.Bytes.{bits_at, bit_at}
 use Rattle.h266.specs.Header.{header_of, fields_of}
-use Rattle.h266.specs.declared.NalHeader.{NalHeader}
-use Rattle.h266.specs.declared.NalHeader.TheVariants.{Header, Refused}
+use Rattle.h266.specs.declared.VvcNalHeader.{VvcNalHeader}
+use Rattle.refusal.specs.declared.Refusal.{Refusal}
+use Rattle.refusal.specs.declared.Refusal.TheVariants.{NalTooShort}
 
-abbrev header : ℕ → ℕ → ℕ → ℕ → ℕ → NalHeader
+abbrev Answer : Type 0
+Answer = Result VvcNalHeader Refusal
+
+abbrev header : ℕ → ℕ → ℕ → ℕ → ℕ → Answer
 header f r l t i =
-    Header (record { forbidden_zero_bit = f; nuh_reserved_zero_bit = r; nuh_layer_id = l; nal_unit_type = t; nuh_temporal_id_plus1 = i })
+    Ok (record { forbidden_zero_bit = f; nuh_reserved_zero_bit = r; nuh_layer_id = l; nal_unit_type = t; nuh_temporal_id_plus1 = i })
 
 record Example : Type 0 where
   nal : List ℕ
-  wanted : NalHeader
+  wanted : Answer
 
-abbrev example : List ℕ → NalHeader → Example
+abbrev example : List ℕ → Answer → Example
 example nal w = record { nal = nal; wanted = w }
 
 table : List Example
 table =
-    example [] (Refused 1)
-    ∷ example (0x00 ∷ []) (Refused 1)
+    example [] (Err NalTooShort)
+    ∷ example (0x00 ∷ []) (Err NalTooShort)
     ∷ example (0x00 ∷ 0x81 ∷ []) (header 0 0 0 16 1)
     ∷ example (0x00 ∷ 0x79 ∷ 0xff ∷ []) (header 0 0 0 15 1)
     ∷ example (0x80 ∷ 0x00 ∷ []) (header 1 0 0 0 0)

@@ -1,11 +1,11 @@
 -- nal_unit_header() of H.266 7.3.1.2.
-use Rattle.std.specs.Prelude.{ℕ, ◌+◌, ◌*◌, ◌/◌, ◌%◌, ◌^◌, ◌≤◌, ◌<◌, ◌≡◌, List, cond, ltb, length, get_or}
+use Rattle.std.specs.Prelude.{ℕ, ◌+◌, ◌*◌, ◌/◌, ◌%◌, ◌^◌, ◌≤◌, ◌<◌, ◌≡◌, List, cond, ltb, length, get_or, Result, Ok, Err}
 use Rattle.std.proofs.Common.{div-one, arith, lt-ltb, le-ltb}
 use Rattle.codes.specs.Bytes.{bits_at}
 use Rattle.codes.specs.Windows.{byte-field}
+use Rattle.refusal.specs.declared.Refusal.{Refusal}
+use Rattle.refusal.specs.declared.Refusal.TheVariants.{NalTooShort}
 use Rattle.h266.specs.declared.VvcNalHeader.{VvcNalHeader}
-use Rattle.h266.specs.declared.NalHeader.{NalHeader}
-use Rattle.h266.specs.declared.NalHeader.TheVariants.{Header, Refused}
 
 -- the five fields in their order: f(1), u(1), u(6), u(5), u(3)
 unfoldable pub fields_of : List ℕ → VvcNalHeader
@@ -18,17 +18,17 @@ fields_of nal =
       nuh_temporal_id_plus1 = bits_at nal 13 3;
     }
 
--- a NAL unit of fewer than 2 bytes has no header: 1
-unfoldable pub header_of : List ℕ → NalHeader
-header_of nal = cond (ltb (length nal) 2) (Refused 1) (Header (fields_of nal))
+-- a NAL unit of fewer than 2 bytes has no header
+unfoldable pub header_of : List ℕ → Result VvcNalHeader Refusal
+header_of nal = cond (ltb (length nal) 2) (Err NalTooShort) (Ok (fields_of nal))
 
-pub header-none : (nal : List ℕ) → length nal < 2 → Refused 1 ≡ header_of nal
+pub header-none : (nal : List ℕ) → length nal < 2 → Err NalTooShort ≡ header_of nal
 unfolding header_of
 header-none nal h = rw (lt-ltb (length nal) 2 h)
 
 -- the fields from the two bytes
 pub header_made : (nal : List ℕ) → 2 ≤ length nal → get_or nal 0 0 < 256 → get_or nal 1 0 < 256
-    → Header (record {
+    → Ok (record {
       forbidden_zero_bit = get_or nal 0 0 / 128 % 2;
       nuh_reserved_zero_bit = get_or nal 0 0 / 64 % 2;
       nuh_layer_id = get_or nal 0 0 % 64;

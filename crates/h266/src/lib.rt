@@ -4,8 +4,10 @@
 ghost use Rattle.std.specs.Prelude.{◌≡◌};
 ghost use Rattle.h266.specs.Header.{header_of};
 
+use refusal::Refusal;
+
 #[repr(C)]
-#[derive(Clone, Copy)]
+#[derive(Clone, Copy, Debug, Default, PartialEq, Eq)]
 pub struct VvcNalHeader {
     pub forbidden_zero_bit: u8,
     pub nuh_reserved_zero_bit: u8,
@@ -14,23 +16,16 @@ pub struct VvcNalHeader {
     pub nuh_temporal_id_plus1: u8,
 }
 
-// The header, or the number of a refusal.
-#[derive(Clone, Copy)]
-pub enum NalHeader {
-    Header(VvcNalHeader),
-    Refused(u8),
-}
-
-// Fewer than 2 bytes: 1. Forbidden and reserved bits are handed back, not tested.
-pub fn parse_nal_header(nal: &[u8]) -> NalHeader
+// Forbidden and reserved bits are handed back, not tested.
+pub fn parse_nal_header(nal: &[u8]) -> Result<VvcNalHeader, Refusal>
     ensures { result ≡ header_of nal.now }
 {
     if nal.len() < 2 {
-        return NalHeader::Refused(1);
+        return Err(Refusal::NalTooShort);
     }
     let b0 = nal[0];
     let b1 = nal[1];
-    NalHeader::Header(VvcNalHeader {
+    Ok(VvcNalHeader {
         forbidden_zero_bit: b0 / 128 % 2,
         nuh_reserved_zero_bit: b0 / 64 % 2,
         nuh_layer_id: b0 % 64,

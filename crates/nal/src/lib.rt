@@ -7,6 +7,8 @@ ghost use Rattle.tables.specs.Tables.{over};
 ghost use Rattle.nal.specs.Escape.{zero_run, is_escape, needs_escape, escape};
 ghost use Rattle.nal.specs.Answers.{unescape_answer, unescape_out, escape_answer, escape_out};
 
+use refusal::Refusal;
+
 // How many bytes were put at the front of the output, or the number of a refusal as docs/BEHAVIOUR.md lists it.
 #[derive(Clone, Copy)]
 pub enum ByteCount {
@@ -17,23 +19,21 @@ pub enum ByteCount {
 // The most bytes that are escaped or unescaped in one call.
 const MAX_BYTES: usize = 65535;
 
-// Takes the escape bytes out of a payload. Refusals: 3 if it is too long, 4 if the output is shorter than it.
-pub fn ebsp_to_rbsp(ebsp: &[u8], out: &mut [u8]) -> ByteCount
+// Takes the escape bytes out of a payload. Refusals: TooLong, then WorkTooShort if the output is shorter than it.
+pub fn ebsp_to_rbsp(ebsp: &[u8], out: &mut [u8]) -> Result<usize, Refusal>
     ensures value { result ≡ unescape_answer ebsp.now out.old }
     ensures out_after { out.new ≡ unescape_out ebsp.now out.old }
 {
     if ebsp.len() > MAX_BYTES {
-        return ByteCount::Refused(3);
+        return Err(Refusal::TooLong);
     }
     if out.len() < ebsp.len() {
-        return ByteCount::Refused(4);
+        return Err(Refusal::WorkTooShort);
     }
     let mut put: usize = 0;
     let mut z: u8 = 0;
-    let mut i: usize = 0;
-    while i < ebsp.len() {
-        let b = ebsp[i];
-        i += 1;
+    for &b in ebsp {
+        // Most bytes: without a test of their own up to three times slower.
         if b > 3 {
             out[put] = b;
             put += 1;
@@ -48,47 +48,41 @@ pub fn ebsp_to_rbsp(ebsp: &[u8], out: &mut [u8]) -> ByteCount
         }
         z = 0;
     }
-    ByteCount::Bytes(put)
+    Ok(put)
 }
 
-// Puts the escape bytes into a payload. Refusals: 3 if it is too long, 29 if the output is shorter than the escaped
-// bytes.
-pub fn rbsp_to_ebsp(rbsp: &[u8], out: &mut [u8]) -> ByteCount
+// Puts the escape bytes into a payload. Refusals: TooLong, then OutputTooShort if the output is shorter than the
+// escaped bytes.
+pub fn rbsp_to_ebsp(rbsp: &[u8], out: &mut [u8]) -> Result<usize, Refusal>
     ensures value { result ≡ escape_answer rbsp.now out.old }
     ensures out_after { out.new ≡ escape_out rbsp.now out.old }
 {
     if rbsp.len() > MAX_BYTES {
-        return ByteCount::Refused(3);
+        return Err(Refusal::TooLong);
     }
     if !fits_in(rbsp, out.len()) {
-        return ByteCount::Refused(29);
+        return Err(Refusal::OutputTooShort);
     }
-    ByteCount::Bytes(escape_into(rbsp, out))
+    Ok(escape_into(rbsp, out))
 }
 
 // The run of zero bytes that ends with b, after a run of z: 2 stands for two and more.
 pub fn zero_run(z: u8, b: u8) -> u8
     ensures { result ≡ zero_run z b }
 {
-    if b != 0 {
-        return 0;
-    }
-    if z >= 2 {
-        return 2;
-    }
-    z + 1
+    if b == 0 { z.min(1) + 1 } else { 0 }
 }
 
 fn is_escape(z: u8, b: u8) -> bool
     ensures { result ≡ is_escape z b }
 {
-    (z >= 2) & (b == 3)
+    z >= 2 && b == 3
 }
 
 pub fn needs_escape(z: u8, b: u8) -> bool
     ensures { result ≡ needs_escape z b }
 {
-    (z >= 2) & (b <= 3)
+    z >= 2 && b <= 3
 }
 
 // Whether the escaped bytes fit. Two bytes become three at the most, so with that much room there is nothing to count.
@@ -109,10 +103,7 @@ fn escaped_len(rbsp: &[u8]) -> usize
 {
     let mut n: usize = 0;
     let mut z: u8 = 0;
-    let mut i: usize = 0;
-    while i < rbsp.len() {
-        let b = rbsp[i];
-        i += 1;
+    for &b in rbsp {
         if b > 3 {
             n += 1;
             z = 0;
@@ -139,10 +130,7 @@ fn escape_into(rbsp: &[u8], out: &mut [u8]) -> usize
 {
     let mut put: usize = 0;
     let mut z: u8 = 0;
-    let mut i: usize = 0;
-    while i < rbsp.len() {
-        let b = rbsp[i];
-        i += 1;
+    for &b in rbsp {
         if b > 3 {
             out[put] = b;
             put += 1;

@@ -1,10 +1,11 @@
 -- The tests before the first field, one law for each outcome.
-use Rattle.std.specs.Prelude.{ℕ, ◌-◌, ◌<◌, ◌≤◌, ◌≡◌, refl, List, Bool, true, false, not, cond, ltb, eqb, length}
+use Rattle.std.specs.Prelude.{ℕ, ◌-◌, ◌<◌, ◌≤◌, ◌≡◌, refl, List, Bool, true, false, not, cond, ltb, eqb, length, Ok, Err}
 use Rattle.std.proofs.Common.{sym, ap, arith, lit<}
 use borrow.Author.Tests.{lt-ltb, le-ltb, eq-eqb, ne_eqb, ltb-true, ltb-false}
+use Rattle.refusal.specs.declared.Refusal.{Refusal}
+use Rattle.refusal.specs.declared.Refusal.TheVariants.{NalTooShort}
 use Rattle.codes.specs.Bytes.{bits_at}
 use Rattle.h266.specs.Header.{header_of, fields_of}
-use Rattle.h266.specs.declared.NalHeader.TheVariants.{Header, Refused}
 use Rattle.h266.specs.declared.VvcNalHeader.{VvcNalHeader}
 use Rattle.pps_syntax.specs.Rbsp.{before_fields}
 
@@ -13,19 +14,19 @@ pub record TwoBytes (nal : List ℕ) (h : VvcNalHeader) : Type 0 where
   pub long : 2 ≤ length nal
   pub type : h.nal_unit_type ≡ bits_at nal 8 5
 
-pub header-short : (nal : List ℕ) (k : ℕ) → header_of nal ≡ Refused k → (length nal < 2) × (1 ≡ k)
+pub header-short : (nal : List ℕ) (k : Refusal) → header_of nal ≡ Err k → (length nal < 2) × (NalTooShort ≡ k)
 unfolding header_of
 header-short nal k e = split (ltb (length nal) 2) refl e
   where
-    split : (t : Bool) → ltb (length nal) 2 ≡ t → cond t (Refused 1) (Header (fields_of nal)) ≡ Refused k → (length nal < 2) × (1 ≡ k)
+    split : (t : Bool) → ltb (length nal) 2 ≡ t → cond t (Err NalTooShort) (Ok (fields_of nal)) ≡ Err k → (length nal < 2) × (NalTooShort ≡ k)
     split true q z = (ltb-true _ _ q, (cc))
     split false q z = absurd (let n : ◌≡◌ {A = ℕ} 0 1 = cc in omega arith)
 
-pub header-long : (nal : List ℕ) (h : VvcNalHeader) → header_of nal ≡ Header h → TwoBytes nal h
+pub header-long : (nal : List ℕ) (h : VvcNalHeader) → header_of nal ≡ Ok h → TwoBytes nal h
 unfolding header_of fields_of
 header-long nal h e = split (ltb (length nal) 2) refl e
   where
-    split : (t : Bool) → ltb (length nal) 2 ≡ t → cond t (Refused 1) (Header (fields_of nal)) ≡ Header h → TwoBytes nal h
+    split : (t : Bool) → ltb (length nal) 2 ≡ t → cond t (Err NalTooShort) (Ok (fields_of nal)) ≡ Ok h → TwoBytes nal h
     split true q z = absurd (let n : ◌≡◌ {A = ℕ} 0 1 = cc in omega arith)
     split false q z =
         let s : fields_of nal ≡ h = cc in

@@ -45,22 +45,15 @@ fn tell_file(rt: HostRuntime, path: &[u8]) {
     }
 }
 
-// Of the file that argument i names; false where there is none. A path that is too long counts as empty.
-fn tell(rt: HostRuntime, i: usize) -> bool {
-    let mut path = [0u8; 4096];
-    let length = match rt.arg(i, &mut path) {
-        Ok(length) => length,
-        Err(FillError::TooLong) => 0,
-        Err(FillError::NotPresent) => return false,
-    };
-    tell_file(rt, &path[..length]);
-    true
-}
-
 fn main(rt: HostRuntime) {
+    let mut path = [0u8; 4096];
     for i in 1..usize::MAX {
-        if !tell(rt, i) {
-            return;
-        }
+        let length = match rt.arg(i, &mut path) {
+            Ok(length) => length,
+            // A path that is too long counts as empty.
+            Err(FillError::TooLong) => 0,
+            Err(FillError::NotPresent) => return,
+        };
+        tell_file(rt, &path[..length]);
     }
 }

@@ -1,10 +1,13 @@
 -- Reading a NAL unit: refused before its fields, or read from the work buffer.
-use Rattle.std.specs.Prelude.{ℕ, ◌≤◌, ◌≡◌, List, Bool, length, take, drop}
+use Rattle.std.specs.Prelude.{ℕ, ◌≤◌, ◌≡◌, refl, List, Bool, length, take, drop, Result, Ok, Err}
 use Rattle.std.proofs.Math.Path.{sym}
 use Rattle.std.proofs.Common.{ap, ◌∙◌, arith}
 use Rattle.std.proofs.Math.ListN.{length-drop}
 use Rattle.std.proofs.Math.Seq.{take-append_seam}
 use borrow.Author.Tests.{eq-eqb, ne_eqb}
+use Rattle.refusal.specs.declared.Refusal.{Refusal}
+use Rattle.refusal.specs.Numbers.{number, refused}
+use Rattle.refusal.proofs.Numbers.{number_above0}
 use Rattle.nal.specs.Lengths.{unescape-length}
 use Rattle.tables.specs.Tables.{over}
 use Rattle.pps_syntax.specs.FromRecord.{Lent, tables_long}
@@ -14,6 +17,15 @@ use Rattle.pps_answer.specs.Answers.{refused_pps, answer_of}
 use Rattle.pps_answer.specs.Before.{Passed, before-passed}
 use Rattle.pps_answer.specs.Lending.{after_fields}
 use Rattle.pps_answer.specs.ParsePps.{outcome, parse_pps}
+
+-- a refusal has a number above 0, and nothing else has one
+pub above0 : (e : Refusal) → number e ≡ 0 → ⊥
+above0 e h = absurd (omega (arith, number_above0 e))
+
+pub accepted-is : {A : Type 0} (r : Result A Refusal) → ((e : Refusal) → r ≡ Err e → ⊥) → refused r ≡ 0
+unfolding refused
+accepted-is (Ok x) h = refl
+accepted-is (Err e) h = absurd (h e refl)
 
 module _ (nal work : List ℕ) (fit : Bool) {said : Bool} (F : said ≡ fit) {n : ℕ} (B : n ≡ before_fields nal (length work) said) where
   number_is : n ≡ before_fields nal (length work) fit

@@ -85,8 +85,8 @@ pub fn parse_pps(
         split_heights.len(),
     );
     let before = before_fields(nal, work.len(), long);
-    if before != 0 {
-        return PpsRead::refused(before);
+    if let Err(refusal) = before {
+        return PpsRead::refused(refusal.number());
     }
     let count = unescape_payload(nal, work);
     read_into_cleared(

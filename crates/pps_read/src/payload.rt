@@ -3,8 +3,6 @@ ghost use Rattle.std.specs.Prelude.{◌≡◌, ◌-◌, ◌≤◌, length};
 ghost use Rattle.tables.specs.Tables.{over};
 ghost use Rattle.pps_syntax.specs.Rbsp.{rbsp_of};
 
-use nal::ByteCount;
-
 // Puts the payload without its escape bytes into the front of the work buffer; the number of these bytes.
 pub fn unescape_payload(unit: &[u8], work: &mut [u8]) -> usize
     requires in_bounds { 2 ≤ length unit.now }
@@ -13,9 +11,5 @@ pub fn unescape_payload(unit: &[u8], work: &mut [u8]) -> usize
     ensures value { result ≡ length (rbsp_of unit.now) }
     ensures work_after { work.new ≡ over (rbsp_of unit.now) work.old }
 {
-    let n = nal::ebsp_to_rbsp(&unit[2..], work);
-    match n {
-        ByteCount::Bytes(count) => count,
-        ByteCount::Refused(_number) => 0,
-    }
+    nal::ebsp_to_rbsp(&unit[2..], work).unwrap()
 }

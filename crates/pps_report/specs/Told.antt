@@ -1,6 +1,6 @@
 -- What is told of a unit: the number of its refusal, read into a work buffer of 65,536 bytes and tables of the stated
 -- lengths. What is printed beside it no contract can say.
-use Rattle.std.specs.Prelude.{ℕ, ◌≡◌, refl, Bool, true, false, List, eqb, length}
+use Rattle.std.specs.Prelude.{ℕ, ◌≡◌, refl, Bool, true, false, List, Result, Ok, Err, eqb, length}
 use Rattle.std.proofs.Math.Path.{sym, ap}
 use Rattle.std.proofs.Common.{◌∙◌}
 use Rattle.pps_answer.specs.Answers.{answer_of}
@@ -19,6 +19,11 @@ refusal_of (Refused n) = n
 
 unfoldable pub refusal_told : List ℕ → ℕ
 refusal_told nal = refusal_of (answer_of (read_nal nal 65536 true)).answer
+
+-- The number in an answer that holds one in place of a refusal.
+abbrev pub refused_with : {A : Type 0} → Result A ℕ → ℕ
+refused_with (Ok _) = 0
+refused_with (Err n) = n
 
 -- the answer of reading goes by the lengths of what is lent
 answer-read : (nal work : List ℕ) (t : Lent)

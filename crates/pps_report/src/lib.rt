@@ -1,5 +1,6 @@
 // What the programs say of a NAL unit with a picture parameter set. Each function tells the number of the unit's
-// refusal, or 0; of what it prints no contract can speak.
+// refusal, or 0; of what it prints no contract can speak. A write that fails is passed over: what is told goes on with
+// the next one.
 #![tactic(auto)]
 
 ghost use Rattle.std.specs.Prelude.{◌≡◌};
@@ -8,7 +9,6 @@ ghost use Rattle.pps_report.specs.Told.{refusal_told};
 mod drawing;
 mod input;
 mod marks;
-mod out;
 mod page;
 mod report;
 mod scale;
@@ -18,6 +18,7 @@ mod tiles;
 
 pub use input::{LARGEST, read_full};
 use report::report_of;
+use text::Refused;
 use tile_sizes::{MAX_SLICES, MAX_TILE_COLUMNS, MAX_TILES};
 
 // The lengths of the lists in a report.
@@ -31,16 +32,30 @@ const SLICES: usize = MAX_SLICES as usize;
 pub fn print_info(rt: &impl Print, nal: &[u8]) -> u8
     ensures { result ≡ refusal_told nal.now }
 {
-    let report = report_of(nal);
-    text::print_report(rt, report);
-    report.refused
+    match report_of(nal) {
+        Ok(report) => {
+            let _ = rt.print(&report);
+            0
+        }
+        Err(number) => {
+            let _ = rt.println(Refused(number));
+            number
+        }
+    }
 }
 
 // Prints a drawing of a unit's tiles and its numbered slices.
 pub fn print_svg(rt: &impl Print, nal: &[u8]) -> u8
     ensures { result ≡ refusal_told nal.now }
 {
-    let report = report_of(nal);
-    drawing::draw(rt, report);
-    report.refused
+    match report_of(nal) {
+        Ok(report) => {
+            drawing::draw(rt, &report);
+            0
+        }
+        Err(number) => {
+            page::refused(rt, Refused(number));
+            number
+        }
+    }
 }

@@ -1,84 +1,27 @@
-// The marks of the drawing: a rectangle, a number.
-use crate::out::{number, put};
-use crate::scale::{Frame, across, down, least, minus, plus};
+// Numbers in the drawing.
+use crate::scale::Area;
 
-// A rectangle in units.
-#[derive(Clone, Copy)]
-pub struct Box {
-    pub x: u32,
-    pub y: u32,
-    pub width: u32,
-    pub height: u32,
+// In the middle of a rectangle, as large as fits but not too large.
+pub fn number_in(rt: &impl Print, n: usize, a: Area) {
+    let size = (a.width / 3).min(a.height / 4 * 3).min(600);
+    let x = a.x.saturating_add(a.width / 2);
+    let y = a.y.saturating_add(a.height / 2).saturating_add(size / 3);
+    number(rt, n, x, y, size, "text-anchor='middle'");
 }
 
-// An attribute with a number.
-pub fn attribute(rt: &impl Print, name: &[u8], n: u32) {
-    put(rt, b" ");
-    put(rt, name);
-    put(rt, b"='");
-    number(rt, n as u64);
-    put(rt, b"'");
+// A small one in the lower right corner.
+pub fn number_in_corner(rt: &impl Print, n: usize, a: Area) {
+    let size = (a.width / 5).min(a.height / 4).min(180);
+    let x = a.x.saturating_add(a.width).saturating_sub(size / 2);
+    let y = a.y.saturating_add(a.height).saturating_sub(size / 2);
+    number(rt, n, x, y, size, "text-anchor='end' fill='#444'");
 }
 
-// A rectangle of CTBs in units.
-pub fn box_of(left: u32, top: u32, width: u32, height: u32, frame: Frame) -> Box {
-    let x = across(left, frame);
-    let y = down(top, frame);
-    Box {
-        x,
-        y,
-        width: minus(across(plus(left, width), frame), x),
-        height: minus(down(plus(top, height), frame), y),
-    }
-}
-
-// The same, so much smaller on each side.
-pub fn inset(b: Box, by: u32) -> Box {
-    Box {
-        x: plus(b.x, by),
-        y: plus(b.y, by),
-        width: minus(b.width, plus(by, by)),
-        height: minus(b.height, plus(by, by)),
-    }
-}
-
-// A rectangle up to its style, which the caller puts with the end of the element.
-pub fn rect(rt: &impl Print, b: Box) {
-    put(rt, b"<rect");
-    attribute(rt, b"x", b.x);
-    attribute(rt, b"y", b.y);
-    attribute(rt, b"width", b.width);
-    attribute(rt, b"height", b.height);
-}
-
-// A number in the middle of a rectangle, as large as fits but not too large.
-pub fn number_in(rt: &impl Print, n: u32, b: Box) {
-    let size = least(least(b.width / 3, b.height / 4 * 3), 600);
-    put(rt, b"<text");
-    attribute(rt, b"x", plus(b.x, b.width / 2));
-    attribute(rt, b"y", plus(plus(b.y, b.height / 2), size / 3));
-    attribute(rt, b"font-size", size);
-    attribute(rt, b"stroke-width", size / 6);
-    put(
-        rt,
-        b" text-anchor='middle' stroke='#fff' paint-order='stroke'>",
+// With a white edge, so that it can be read on any colour.
+fn number(rt: &impl Print, n: usize, x: u32, y: u32, size: u32, style: &str) {
+    let edge = size / 6;
+    let _ = println!(rt;
+        "<text x='{x}' y='{y}' font-size='{size}' stroke-width='{edge}' {style} \
+        stroke='#fff' paint-order='stroke'>{n}</text>"
     );
-    number(rt, n as u64);
-    put(rt, b"</text>\n");
-}
-
-// A small number in the lower right corner.
-pub fn number_in_corner(rt: &impl Print, n: u32, b: Box) {
-    let size = least(least(b.width / 5, b.height / 4), 180);
-    put(rt, b"<text");
-    attribute(rt, b"x", minus(plus(b.x, b.width), size / 2));
-    attribute(rt, b"y", minus(plus(b.y, b.height), size / 2));
-    attribute(rt, b"font-size", size);
-    attribute(rt, b"stroke-width", size / 6);
-    put(
-        rt,
-        b" text-anchor='end' fill='#444' stroke='#fff' paint-order='stroke'>",
-    );
-    number(rt, n as u64);
-    put(rt, b"</text>\n");
 }

@@ -1,6 +1,6 @@
 // What is told of a unit: what reading answers, with the grid, the plan and the cover.
 ghost use Rattle.std.specs.Prelude.{◌≡◌};
-ghost use Rattle.pps_report.specs.Told.{refusal_told};
+ghost use Rattle.pps_report.specs.Told.{refusal_told, refused_with};
 
 use crate::{COLUMNS, LARGEST, ROWS, SLICES};
 use pps_answer::{AcceptedPps, PpsAnswer};
@@ -11,46 +11,61 @@ use pps_record::lengths::{
 use pps_tables::ENTRY_LEN;
 use tile_grid::{CoverAnswer, PlanAnswer, TileGrid};
 
-// A refusal, or 0 and the picture: its size in luma samples, its tiles and its slices.
+// A rectangle in CTBs.
+#[derive(Clone, Copy, Default)]
+pub struct Rect {
+    pub left: u32,
+    pub top: u32,
+    pub width: u32,
+    pub height: u32,
+}
+
+// The picture: its size in luma samples, its tiles and its slices.
 #[derive(Clone, Copy)]
 pub struct Report {
-    pub refused: u8,
     pub bytes_taken: usize,
     pub width: u32,
     pub height: u32,
     pub log2_ctu_size_minus5: u8,
-    pub grid: TileGrid,
-    pub plan: PlanAnswer,
+    pub num_tile_columns: u32,
+    pub num_tile_rows: u32,
+    column_widths: [u32; COLUMNS],
+    row_heights: [u32; ROWS],
+    pub num_slices: u32,
+    slices: [Rect; SLICES],
     pub cover: CoverAnswer,
 }
 
-fn refused_report(number: u8) -> Report
-    ensures { result.refused ≡ number }
-{
-    let grid = TileGrid {
-        num_tile_columns: 0,
-        num_tile_rows: 0,
-        column_widths: [0; COLUMNS],
-        row_heights: [0; ROWS],
-    };
-    let plan = PlanAnswer {
-        refused: number,
-        num_slices: 0,
-        left: [0; SLICES],
-        top: [0; SLICES],
-        width: [0; SLICES],
-        height: [0; SLICES],
-    };
-    Report {
-        refused: number,
-        bytes_taken: 0,
-        width: 0,
-        height: 0,
-        log2_ctu_size_minus5: 0,
-        grid,
-        plan,
-        cover: CoverAnswer::Refused(number),
+impl Report {
+    pub fn column_widths(&self) -> &[u32] {
+        first(&self.column_widths, self.num_tile_columns)
     }
+
+    pub fn row_heights(&self) -> &[u32] {
+        first(&self.row_heights, self.num_tile_rows)
+    }
+
+    pub fn slices(&self) -> &[Rect] {
+        first(&self.slices, self.num_slices)
+    }
+}
+
+// The first n, or all where there are fewer.
+fn first<T>(list: &[T], n: u32) -> &[T] {
+    &list[..list.len().min(n as usize)]
+}
+
+fn slices_of(plan: &PlanAnswer) -> [Rect; SLICES] {
+    let mut slices = [Rect::default(); SLICES];
+    for (i, slice) in slices.iter_mut().enumerate() {
+        *slice = Rect {
+            left: plan.left[i],
+            top: plan.top[i],
+            width: plan.width[i],
+            height: plan.height[i],
+        };
+    }
+    slices
 }
 
 // The three questions of a record that was read; none refuses what reading gave (`pps_asked`).
@@ -61,18 +76,17 @@ fn accepted_report(
     tile_row_heights: &[u32],
     entries: &[[u32; ENTRY_LEN]],
     split_heights: &[u32],
-) -> Report
-    ensures { result.refused ≡ 0 }
-{
+) -> Report {
     let pps = a.pps;
-    let answer = TileGrid::of_record(
+    let grid = TileGrid::of_record(
         pps,
         subpic_ids,
         tile_column_widths,
         tile_row_heights,
         entries,
         split_heights,
-    );
+    )
+    .grid;
     let plan = TileGrid::slice_plan(
         pps,
         subpic_ids,
@@ -89,23 +103,27 @@ fn accepted_report(
         entries,
         split_heights,
     );
-    let grid = answer.grid;
-    let p = pps.partition;
+    let column_widths = grid.column_widths;
+    let row_heights = grid.row_heights;
+    let slices = slices_of(&plan);
     Report {
-        refused: 0,
         bytes_taken: a.bytes_taken,
         width: pps.pps_pic_width_in_luma_samples,
         height: pps.pps_pic_height_in_luma_samples,
-        log2_ctu_size_minus5: p.pps_log2_ctu_size_minus5,
-        grid,
-        plan,
+        log2_ctu_size_minus5: pps.partition.pps_log2_ctu_size_minus5,
+        num_tile_columns: grid.num_tile_columns,
+        num_tile_rows: grid.num_tile_rows,
+        column_widths,
+        row_heights,
+        num_slices: plan.num_slices,
+        slices,
         cover,
     }
 }
 
-// Reads a unit into tables of the stated lengths, and asks the questions of it.
-pub fn report_of(nal: &[u8]) -> Report
-    ensures { result.refused ≡ refusal_told nal.now }
+// Reads a unit into tables of the stated lengths, and asks the questions of it; or the number of its refusal.
+pub fn report_of(nal: &[u8]) -> Result<Report, u8>
+    ensures { refused_with result ≡ refusal_told nal.now }
 {
     let mut work = [0u8; LARGEST];
     let mut subpic_ids = [0u32; SUBPIC_IDS];
@@ -124,14 +142,14 @@ pub fn report_of(nal: &[u8]) -> Report
     );
     let answer = read.answer;
     match answer {
-        PpsAnswer::Refused(number) => refused_report(number),
-        PpsAnswer::Accepted(a) => accepted_report(
+        PpsAnswer::Refused(number) => Err(number),
+        PpsAnswer::Accepted(a) => Ok(accepted_report(
             a,
             &subpic_ids,
             &tile_column_widths,
             &tile_row_heights,
             &entries,
             &split_heights,
-        ),
+        )),
     }
 }

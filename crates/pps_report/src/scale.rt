@@ -1,4 +1,6 @@
 // CTBs in the units of the drawing. A result that would pass a u32 stays at its largest number.
+use crate::report::Rect;
+use std::fmt;
 
 // Units across the picture, whatever its width.
 const WIDTH: u32 = 9600;
@@ -6,82 +8,81 @@ const WIDTH: u32 = 9600;
 // The picture in CTBs, its height in units, and the width of a slice's border.
 #[derive(Clone, Copy)]
 pub struct Frame {
-    pub ctbs_across: u32,
-    pub ctbs_down: u32,
+    ctbs_across: u32,
+    ctbs_down: u32,
     pub height: u32,
     pub border: u32,
 }
 
-pub fn plus(a: u32, b: u32) -> u32 {
-    if a > 4294967295 - b {
-        return 4294967295;
-    }
-    a + b
-}
-
-pub fn minus(a: u32, b: u32) -> u32 {
-    if a < b {
-        return 0;
-    }
-    a - b
-}
-
-pub fn least(a: u32, b: u32) -> u32 {
-    if a < b { a } else { b }
-}
-
-fn most(a: u32, b: u32) -> u32 {
-    if a < b { b } else { a }
-}
-
-fn product(a: u32, b: u32) -> u64 {
-    a as u64 * b as u64
-}
-
-fn narrow(a: u64) -> u32 {
-    if a > 4294967295 {
-        return 4294967295;
-    }
-    a as u32
-}
-
-pub fn times(a: u32, b: u32) -> u32 {
-    narrow(product(a, b))
+// A rectangle in units.
+#[derive(Clone, Copy)]
+pub struct Area {
+    pub x: u32,
+    pub y: u32,
+    pub width: u32,
+    pub height: u32,
 }
 
 // Where a place on an axis of so many CTBs lies, when the axis takes so many units.
 fn scaled(place: u32, ctbs: u32, units: u32) -> u32 {
-    if ctbs == 0 {
-        return 0;
+    let at = (place as u64 * units as u64).checked_div(ctbs as u64);
+    u32::try_from(at.unwrap_or(0)).unwrap_or(u32::MAX)
+}
+
+impl Frame {
+    // Blocks are drawn square, unless the picture would then be lower than an eighth of its width or higher than one
+    // and a half of it. The more tiles or slices stand side by side, the thinner are their borders.
+    pub fn new(ctbs_across: u32, ctbs_down: u32, columns: u32, rows: u32, slices: u32) -> Frame {
+        let square = scaled(ctbs_down, ctbs_across, WIDTH);
+        let in_a_column = slices.checked_div(columns).unwrap_or(0);
+        let side_by_side = columns.max(rows).max(in_a_column);
+        Frame {
+            ctbs_across,
+            ctbs_down,
+            height: square.clamp(1200, 14400),
+            border: 320u32.checked_div(side_by_side).unwrap_or(0).clamp(3, 30),
+        }
     }
-    narrow(product(place, units) / ctbs as u64)
-}
 
-pub fn across(x: u32, frame: Frame) -> u32 {
-    scaled(x, frame.ctbs_across, WIDTH)
-}
-
-pub fn down(y: u32, frame: Frame) -> u32 {
-    scaled(y, frame.ctbs_down, frame.height)
-}
-
-// A quotient, or 0 by 0.
-fn over(a: u32, b: u32) -> u32 {
-    if b == 0 {
-        return 0;
+    fn across(self, x: u32) -> u32 {
+        scaled(x, self.ctbs_across, WIDTH)
     }
-    a / b
+
+    fn down(self, y: u32) -> u32 {
+        scaled(y, self.ctbs_down, self.height)
+    }
+
+    pub fn area(self, r: Rect) -> Area {
+        let x = self.across(r.left);
+        let y = self.down(r.top);
+        Area {
+            x,
+            y,
+            width: self
+                .across(r.left.saturating_add(r.width))
+                .saturating_sub(x),
+            height: self.down(r.top.saturating_add(r.height)).saturating_sub(y),
+        }
+    }
 }
 
-// Blocks are drawn square, unless the picture would then be lower than an eighth of its width or higher than one and a
-// half of it. The more tiles or slices stand side by side, the thinner are their borders.
-pub fn frame_of(ctbs_across: u32, ctbs_down: u32, columns: u32, rows: u32, slices: u32) -> Frame {
-    let square = scaled(ctbs_down, ctbs_across, WIDTH);
-    let side_by_side = most(most(columns, rows), over(slices, columns));
-    Frame {
-        ctbs_across,
-        ctbs_down,
-        height: least(most(square, 1200), 14400),
-        border: least(most(over(320, side_by_side), 3), 30),
+impl Area {
+    // The same, so much smaller on each side.
+    pub fn inset(self, by: u32) -> Area {
+        let both = by.saturating_add(by);
+        Area {
+            x: self.x.saturating_add(by),
+            y: self.y.saturating_add(by),
+            width: self.width.saturating_sub(both),
+            height: self.height.saturating_sub(both),
+        }
+    }
+}
+
+// The attributes of an SVG rectangle.
+impl fmt::Display for Area {
+    fn fmt<W: fmt::Write>(&self, f: &mut fmt::Formatter<W>) -> fmt::Result {
+        write!(f, "x='{}' y='{}' ", self.x, self.y)?;
+        write!(f, "width='{}' height='{}'", self.width, self.height)
     }
 }

@@ -1,35 +1,41 @@
-// A report as lines of text.
-use crate::out::{cover_word, number, put};
+// A report, a cover and a refusal as text.
 use crate::report::Report;
+use std::fmt;
+use tile_grid::CoverAnswer;
 
-fn line(rt: &impl Print, name: &[u8], a: u32, b: u32) {
-    put(rt, name);
-    number(rt, a as u64);
-    put(rt, b" ");
-    number(rt, b as u64);
-    put(rt, b"\n");
-}
+// The number of a refusal.
+#[derive(Clone, Copy)]
+pub struct Refused(pub u8);
 
-fn refused(rt: &impl Print, n: u8) {
-    put(rt, b"refused ");
-    number(rt, n as u64);
-    put(rt, b"\n");
-}
-
-// Four lines of a unit that is read, or one with the number of its refusal.
-pub fn print_report(rt: &impl Print, report: Report) {
-    if report.refused != 0 {
-        refused(rt, report.refused);
-        return;
+impl fmt::Display for Refused {
+    fn fmt<W: fmt::Write>(&self, f: &mut fmt::Formatter<W>) -> fmt::Result {
+        let number = self.0;
+        write!(f, "refused {number}")
     }
-    let cover = report.cover;
-    let grid = report.grid;
-    put(rt, b"accepted ");
-    number(rt, report.bytes_taken as u64);
-    put(rt, b"\n");
-    line(rt, b"picture ", report.width, report.height);
-    line(rt, b"tiles ", grid.num_tile_columns, grid.num_tile_rows);
-    put(rt, b"cover ");
-    cover_word(rt, cover);
-    put(rt, b"\n");
+}
+
+// The cover's word, and the tile that it names.
+#[derive(Clone, Copy)]
+pub struct Cover(pub CoverAnswer);
+
+impl fmt::Display for Cover {
+    fn fmt<W: fmt::Write>(&self, f: &mut fmt::Formatter<W>) -> fmt::Result {
+        match self.0 {
+            CoverAnswer::Refused(number) => write!(f, "{}", Refused(number)),
+            CoverAnswer::NoPlan => write!(f, "none"),
+            CoverAnswer::Whole => write!(f, "whole"),
+            CoverAnswer::Gap(t) => write!(f, "gap {}", t.0),
+            CoverAnswer::Double(t) => write!(f, "double {}", t.0),
+        }
+    }
+}
+
+// Four lines of a unit that is read.
+impl fmt::Display for Report {
+    fn fmt<W: fmt::Write>(&self, f: &mut fmt::Formatter<W>) -> fmt::Result {
+        writeln!(f, "accepted {}", self.bytes_taken)?;
+        writeln!(f, "picture {} {}", self.width, self.height)?;
+        writeln!(f, "tiles {} {}", self.num_tile_columns, self.num_tile_rows)?;
+        writeln!(f, "cover {}", Cover(self.cover))
+    }
 }

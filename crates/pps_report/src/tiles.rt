@@ -1,178 +1,61 @@
 // The tiles: borders, numbers, and whether they lie in no slice or in several.
-use crate::marks::{Box, attribute, box_of, number_in_corner, rect};
-use crate::out::put;
-use crate::scale::{Frame, plus, times};
-use crate::slices::{Held, held_at};
-use crate::{COLUMNS, ROWS, SLICES};
-use tile_sizes::{MAX_TILE_COLUMNS, MAX_TILES};
+use crate::marks::number_in_corner;
+use crate::report::{Rect, Report};
+use crate::scale::{Area, Frame};
 
-// A mark where a tile lies in no slice or in several.
-fn mark(rt: &impl Print, held: Held, b: Box) {
-    match held {
-        Held::Never => {
-            rect(rt, b);
-            put(rt, b" fill='url(#gap)'/>\n");
-        }
-        Held::Once => {}
-        Held::Often => {
-            rect(rt, b);
-            put(rt, b" fill='url(#double)'/>\n");
-        }
-    }
+// A mark where a tile lies in no slice or in several. A slice holds a tile whole or is cut from it with others that
+// hold the rest, so that as many slices hold the first block as any other.
+fn mark(rt: &impl Print, tile: Rect, slices: &[Rect], area: Area) {
+    let hatching = match slices
+        .iter()
+        .filter(|s| s.holds(tile.left, tile.top))
+        .take(2)
+        .count()
+    {
+        0 => "gap",
+        1 => return,
+        _ => "double",
+    };
+    let _ = println!(rt; "<rect {area} fill='url(#{hatching})'/>");
 }
 
-fn border(rt: &impl Print, t: u32, b: Box, frame: Frame) {
-    rect(rt, b);
-    put(rt, b" fill='none' stroke='#000'");
-    attribute(rt, b"stroke-width", frame.border / 3);
-    put(rt, b" stroke-dasharray='60 40'/>\n");
-    number_in_corner(rt, t, b);
-}
-
-// The tile in column i of the row that begins with tile `first`, from x on; where the next one begins. A slice holds a
-// tile whole or is cut from it with others that hold the rest, so that as many slices hold the first block as any
-// other.
-fn draw_tile(
-    rt: &impl Print,
-    i: u32,
-    first: u32,
-    x: u32,
-    y: u32,
-    row_height: u32,
-    columns: u32,
-    column_widths: &[u32; COLUMNS],
-    count: u32,
-    left: &[u32; SLICES],
-    top: &[u32; SLICES],
-    width: &[u32; SLICES],
-    height: &[u32; SLICES],
-    frame: Frame,
-) -> u32 {
-    if i >= columns {
-        return x;
-    }
-    let k = i as usize;
-    if k >= COLUMNS {
-        return x;
-    }
-    let column_width = column_widths[k];
-    let b = box_of(x, y, column_width, row_height, frame);
-    if count > 0 {
-        mark(rt, held_at(x, y, count, left, top, width, height), b);
-    }
-    border(rt, plus(first, i), b, frame);
-    plus(x, column_width)
-}
-
-// Row i of tiles, from y on; where the next one begins.
-fn draw_row(
-    rt: &impl Print,
-    i: u32,
-    y: u32,
-    rows: u32,
-    row_heights: &[u32; ROWS],
-    columns: u32,
-    column_widths: &[u32; COLUMNS],
-    count: u32,
-    left: &[u32; SLICES],
-    top: &[u32; SLICES],
-    width: &[u32; SLICES],
-    height: &[u32; SLICES],
-    frame: Frame,
-) -> u32 {
-    if i >= rows {
-        return y;
-    }
-    let k = i as usize;
-    if k >= ROWS {
-        return y;
-    }
-    let row_height = row_heights[k];
-    draw_columns(
-        rt,
-        times(i, columns),
-        y,
-        row_height,
-        columns,
-        column_widths,
-        count,
-        left,
-        top,
-        width,
-        height,
-        frame,
+fn border(rt: &impl Print, t: usize, area: Area, width: u32) {
+    let _ = println!(rt;
+        "<rect {area} fill='none' stroke='#000' stroke-width='{width}' stroke-dasharray='60 40'/>"
     );
-    plus(y, row_height)
+    number_in_corner(rt, t, area);
 }
 
-fn draw_columns(
-    rt: &impl Print,
-    first: u32,
-    y: u32,
-    row_height: u32,
-    columns: u32,
-    column_widths: &[u32; COLUMNS],
-    count: u32,
-    left: &[u32; SLICES],
-    top: &[u32; SLICES],
-    width: &[u32; SLICES],
-    height: &[u32; SLICES],
-    frame: Frame,
-) {
-    let mut x = 0;
-    let mut i = 0;
-    while i < MAX_TILE_COLUMNS {
-        x = draw_tile(
-            rt,
-            i,
-            first,
-            x,
-            y,
-            row_height,
-            columns,
-            column_widths,
-            count,
-            left,
-            top,
-            width,
-            height,
-            frame,
-        );
-        i += 1;
+fn draw_tile(rt: &impl Print, t: usize, tile: Rect, slices: &[Rect], frame: Frame) {
+    let area = frame.area(tile);
+    if !slices.is_empty() {
+        mark(rt, tile, slices, area);
     }
+    border(rt, t, area, frame.border / 3);
 }
 
-pub fn draw_tiles(
-    rt: &impl Print,
-    rows: u32,
-    row_heights: &[u32; ROWS],
-    columns: u32,
-    column_widths: &[u32; COLUMNS],
-    count: u32,
-    left: &[u32; SLICES],
-    top: &[u32; SLICES],
-    width: &[u32; SLICES],
-    height: &[u32; SLICES],
-    frame: Frame,
-) {
-    let mut y = 0;
-    let mut i = 0;
-    while i < MAX_TILES {
-        y = draw_row(
-            rt,
-            i,
-            y,
-            rows,
-            row_heights,
-            columns,
-            column_widths,
-            count,
-            left,
-            top,
-            width,
-            height,
-            frame,
-        );
-        i += 1;
+pub fn draw_tiles(rt: &impl Print, report: &Report, frame: Frame) {
+    let column_widths = report.column_widths();
+    let mut top = 0u32;
+    for (row, &height) in report.row_heights().iter().enumerate() {
+        let first = row.saturating_mul(column_widths.len());
+        let mut left = 0u32;
+        for (column, &width) in column_widths.iter().enumerate() {
+            let tile = Rect {
+                left,
+                top,
+                width,
+                height,
+            };
+            draw_tile(
+                rt,
+                first.saturating_add(column),
+                tile,
+                report.slices(),
+                frame,
+            );
+            left = left.saturating_add(width);
+        }
+        top = top.saturating_add(height);
     }
 }

@@ -1,10 +1,9 @@
 -- The number of a refusal, 0 where nothing is refused, and the values, for each case of an answer.
-use Rattle.std.specs.Prelude.{ℕ, ◌≡◌, List}
+use Rattle.std.specs.Prelude.{ℕ, ◌≡◌, List, Result, Ok, Err}
 use Rattle.std.proofs.Common.{ap, ◌∙◌}
-use Rattle.code_length.specs.declared.UeSize.{UeSize}
-use Rattle.code_length.specs.declared.UeSize.TheVariants as size
-use Rattle.h266.specs.declared.NalHeader.{NalHeader}
-use Rattle.h266.specs.declared.NalHeader.TheVariants as header
+use Rattle.refusal.specs.declared.Refusal.{Refusal}
+use Rattle.refusal.specs.Numbers.{number}
+use Rattle.h266.specs.declared.VvcNalHeader.{VvcNalHeader}
 use Rattle.nal.specs.declared.ByteCount.{ByteCount}
 use Rattle.nal.specs.declared.ByteCount.TheVariants as count
 use Rattle.pps_syntax.specs.WriteAnswers.{WriteOutcome, wrote}
@@ -16,11 +15,15 @@ abbrev pub byte_count : ByteCount → VvcByteCount
 byte_count (count.Bytes n) = record { refused = 0; bytes = n }
 byte_count (count.Refused k) = record { refused = k; bytes = 0 }
 
-abbrev pub nal_header : NalHeader → VvcNalHeaderRead
-nal_header (header.Header h) = record { refused = 0; header = h }
-nal_header (header.Refused k) =
+abbrev pub count_of : Result ℕ Refusal → VvcByteCount
+count_of (Ok n) = record { refused = 0; bytes = n }
+count_of (Err e) = record { refused = number e; bytes = 0 }
+
+abbrev pub nal_header : Result VvcNalHeader Refusal → VvcNalHeaderRead
+nal_header (Ok h) = record { refused = 0; header = h }
+nal_header (Err e) =
     record {
-      refused = k;
+      refused = number e;
       header =
           record {
             forbidden_zero_bit = 0;
@@ -31,9 +34,9 @@ nal_header (header.Refused k) =
           };
     }
 
-abbrev pub ue_size : UeSize → VvcUeSize
-ue_size (size.Bits n) = record { refused = 0; bits = n }
-ue_size (size.Refused k) = record { refused = k; bits = 0 }
+abbrev pub ue_size : Result ℕ Refusal → VvcUeSize
+ue_size (Ok n) = record { refused = 0; bits = n }
+ue_size (Err e) = record { refused = number e; bits = 0 }
 
 -- writing a set: the answer, and what is left in the output
 pub record HeldWritten : Type 0 where

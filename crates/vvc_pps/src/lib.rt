@@ -14,7 +14,7 @@ ghost use Rattle.codes.specs.Coded.{ue_symbols, se_symbols};
 ghost use Rattle.codes.specs.Symbols.{putting};
 ghost use Rattle.bit_writer.specs.Writing.{sink_over, fresh, play, closed};
 ghost use Rattle.bit_writer.specs.Answers.{answer_of};
-ghost use Rattle.vvc_pps.specs.Answers.{byte_count, nal_header, ue_size};
+ghost use Rattle.vvc_pps.specs.Answers.{byte_count, count_of, nal_header, ue_size};
 ghost use Rattle.vvc_pps.specs.Version.{version_of};
 
 mod no_pps;
@@ -24,9 +24,9 @@ pub mod writing;
 
 use bit_reader::{BitsRead, Cursor, SignedRead};
 use bit_writer::Sink;
-use code_length::UeSize;
-use h266::{NalHeader, VvcNalHeader};
+use h266::VvcNalHeader;
 use nal::ByteCount;
+use refusal::Refusal;
 
 // include/vvc_pps.h and CHANGELOG.md have the same numbers.
 const VERSION_MAJOR: u32 = 0;
@@ -65,6 +65,20 @@ pub struct VvcUeSize {
     pub bits: u32,
 }
 
+impl From<Result<usize, Refusal>> for VvcByteCount {
+    ghost from_gives = { λ answer count. count ≡ count_of answer };
+
+    fn from(answer: Result<usize, Refusal>) -> VvcByteCount {
+        match answer {
+            Ok(bytes) => VvcByteCount { refused: 0, bytes },
+            Err(refusal) => VvcByteCount {
+                refused: refusal.number(),
+                bytes: 0,
+            },
+        }
+    }
+}
+
 fn of_byte_count(c: ByteCount) -> VvcByteCount
     ensures { result ≡ byte_count c }
 {
@@ -82,35 +96,31 @@ fn of_byte_count(c: ByteCount) -> VvcByteCount
 
 #[unsafe(no_mangle)]
 pub extern "C" fn vvc_ebsp_to_rbsp(ebsp: &[u8], out: &mut [u8]) -> VvcByteCount
-    ensures value { result ≡ byte_count (unescape_answer ebsp.now out.old) }
+    ensures value { result ≡ count_of (unescape_answer ebsp.now out.old) }
     ensures out_after { out.new ≡ unescape_out ebsp.now out.old }
 {
-    of_byte_count(nal::ebsp_to_rbsp(ebsp, out))
+    VvcByteCount::from(nal::ebsp_to_rbsp(ebsp, out))
 }
 
 #[unsafe(no_mangle)]
 pub extern "C" fn vvc_rbsp_to_ebsp(rbsp: &[u8], out: &mut [u8]) -> VvcByteCount
-    ensures value { result ≡ byte_count (escape_answer rbsp.now out.old) }
+    ensures value { result ≡ count_of (escape_answer rbsp.now out.old) }
     ensures out_after { out.new ≡ escape_out rbsp.now out.old }
 {
-    of_byte_count(nal::rbsp_to_ebsp(rbsp, out))
+    VvcByteCount::from(nal::rbsp_to_ebsp(rbsp, out))
 }
 
-fn of_header(h: NalHeader) -> VvcNalHeaderRead
-    ensures { result ≡ nal_header h }
-{
-    match h {
-        NalHeader::Header(header) => VvcNalHeaderRead { refused: 0, header },
-        NalHeader::Refused(k) => VvcNalHeaderRead {
-            refused: k,
-            header: VvcNalHeader {
-                forbidden_zero_bit: 0,
-                nuh_reserved_zero_bit: 0,
-                nuh_layer_id: 0,
-                nal_unit_type: 0,
-                nuh_temporal_id_plus1: 0,
+impl From<Result<VvcNalHeader, Refusal>> for VvcNalHeaderRead {
+    ghost from_gives = { λ answer read. read ≡ nal_header answer };
+
+    fn from(answer: Result<VvcNalHeader, Refusal>) -> VvcNalHeaderRead {
+        match answer {
+            Ok(header) => VvcNalHeaderRead { refused: 0, header },
+            Err(refusal) => VvcNalHeaderRead {
+                refused: refusal.number(),
+                header: VvcNalHeader::default(),
             },
-        },
+        }
     }
 }
 
@@ -118,18 +128,20 @@ fn of_header(h: NalHeader) -> VvcNalHeaderRead
 pub extern "C" fn vvc_parse_nal_header(nal: &[u8]) -> VvcNalHeaderRead
     ensures { result ≡ nal_header (header_of nal.now) }
 {
-    of_header(h266::parse_nal_header(nal))
+    VvcNalHeaderRead::from(h266::parse_nal_header(nal))
 }
 
-fn of_size(s: UeSize) -> VvcUeSize
-    ensures { result ≡ ue_size s }
-{
-    match s {
-        UeSize::Bits(bits) => VvcUeSize { refused: 0, bits },
-        UeSize::Refused(k) => VvcUeSize {
-            refused: k,
-            bits: 0,
-        },
+impl From<Result<u32, Refusal>> for VvcUeSize {
+    ghost from_gives = { λ answer size. size ≡ ue_size answer };
+
+    fn from(answer: Result<u32, Refusal>) -> VvcUeSize {
+        match answer {
+            Ok(bits) => VvcUeSize { refused: 0, bits },
+            Err(refusal) => VvcUeSize {
+                refused: refusal.number(),
+                bits: 0,
+            },
+        }
     }
 }
 
@@ -137,7 +149,7 @@ fn of_size(s: UeSize) -> VvcUeSize
 pub extern "C" fn vvc_ue_size(v: u32) -> VvcUeSize
     ensures { result ≡ ue_size (ue_size_of v) }
 {
-    of_size(code_length::ue_size(v))
+    VvcUeSize::from(code_length::ue_size(v))
 }
 
 #[unsafe(no_mangle)]

@@ -1,14 +1,12 @@
 -- Worked examples of reading, of the grid, plan and cover questions and of escaping: one table of inputs and what each must come to, and one theorem, computed. What an input comes to is said
 -- by the definitions that the functions' contracts cite.
-use Rattle.std.specs.Prelude.{ℕ, ◌≡◌, refl, List, [], ◌∷◌, map, pos, negsuc, length, replicate}
+use Rattle.std.specs.Prelude.{ℕ, ◌≡◌, refl, List, [], ◌∷◌, map, pos, negsuc, length, replicate, Result, Ok}
 use Rattle.bit_reader.specs.Extension.{ones, taken_while_more, extension_bits}
 use Rattle.bit_reader.specs.Reading.{unless_refused, onward, u_read, stops, zeros_at, ue_after, ue_within, ue_read, se_read, trailing_read, demanded}
 use Rattle.codes.specs.Bytes.{bit_at, bits_at, bit_list}
 use Rattle.codes.specs.ExpGolomb.{signed_of}
-use Rattle.nal.specs.Answers.{out_after, escape_answer, escape_out}
+use Rattle.nal.specs.Answers.{output_after, escape_answer, escape_out}
 use Rattle.nal.specs.Escape.{zero_run, is_escape, needs_escape, unescape_from, unescape, escape_byte, escape_run, escape_end, escape_from, escape}
-use Rattle.nal.specs.declared.ByteCount.{ByteCount}
-use Rattle.nal.specs.declared.ByteCount.TheVariants.{Bytes}
 use Rattle.partition.specs.Axis.{boundary, span}
 use Rattle.partition.specs.Checks.{first_bad}
 use Rattle.partition.specs.Cover.{Cover, no_plan, whole, gap, double}
@@ -45,6 +43,7 @@ use Rattle.pps_syntax.specs.SliceSyntax.{rect_slices}
 use Rattle.pps_syntax.specs.SliceTables.{split_count, slice_at, slices_from, split_total, bits_of_delta, delta_of_bits}
 use Rattle.pps_syntax.specs.SubpicIds.{subpic_ids}
 use Rattle.question_tests.specs.Questions.{flag_over1, record_checks, no_tiles, picture_layout, layout_asked}
+use Rattle.refusal.specs.declared.Refusal.{Refusal}
 use Rattle.syntax.specs.Elements.{or_else}
 use Rattle.syntax.specs.Lists.{many, walk as walk_element}
 use Rattle.syntax.specs.Syntax.{◌>>=◌, parse}
@@ -83,7 +82,7 @@ pub data Outcome : Type 0 where
   -- qualify, which is a right one (Demand.`cover-right`)
   answers : GridAnswer → PlanAnswer → List ℕ → Cover → Outcome
   -- the answer, and the output
-  escapes : ByteCount → List ℕ → Outcome
+  escapes : Result ℕ Refusal → List ℕ → Outcome
 
 -- ---- what an input comes to
 
@@ -192,11 +191,11 @@ cases =
     ∷ example (asking (unpartitioned 0 1) zero_tables) (declines 7)
     ∷ example (asking (unpartitioned 1 1) no_tables) (declines 5)
     -- Escaping. 00 00 03 gives 00 00 03 03; 00 gives 00
-    ∷ example (escaping (0x00 ∷ 0x00 ∷ 0x03 ∷ []) room) (escapes (Bytes 4) (0x00 ∷ 0x00 ∷ 0x03 ∷ 0x03 ∷ 0xff ∷ []))
-    ∷ example (escaping (0x00 ∷ []) room) (escapes (Bytes 1) (0x00 ∷ 0xff ∷ 0xff ∷ 0xff ∷ 0xff ∷ []))
+    ∷ example (escaping (0x00 ∷ 0x00 ∷ 0x03 ∷ []) room) (escapes (Ok 4) (0x00 ∷ 0x00 ∷ 0x03 ∷ 0x03 ∷ 0xff ∷ []))
+    ∷ example (escaping (0x00 ∷ []) room) (escapes (Ok 1) (0x00 ∷ 0xff ∷ 0xff ∷ 0xff ∷ 0xff ∷ []))
     ∷ []
 
 -- every input comes to what is wanted
 pub all-cases : map (λ (e : Example). outcome e.input) cases ≡ map (λ (e : Example). e.wanted) cases
-unfolding cases outcome extension_of slices_of_tiles cover_for places ones taken_while_more extension_bits unless_refused onward u_read stops zeros_at ue_after ue_within ue_read se_read trailing_read demanded bit_at bits_at bit_list signed_of out_after escape_answer escape_out zero_run is_escape needs_escape unescape_from unescape escape_byte escape_run escape_end escape_from escape boundary span first_bad tile_x tile_y tile_row_height in_last_row height_coded inherited_height split_coded split_heights num_slices_in_tile last_slice_of some_at_least default_advance tile_after_delta delta_leaves delta_refused delta_uncodable next_tile next_position size_checks inherited_checks split_checks move_checks entry_checks up_to stacked group_slices plan groups_at groups_at_tile or_at lowest answer lowest_cover cover_of in_ctbs tile_grid explicit_checks axis_checks grid_checks grid_of grid_checks_of slices_coded delta_flag_checks partition_checks from_walk unless layout plan_of sum explicit_sizes uniform_size tail_size uniform_sizes axis_sizes among slice_heights_of entry_group last_group after walk answer_of after_fields parse_pps no_partition chroma deblocking partition_from extension_from lengths_fit counts_fit head conf_win scaling_win kind partition partition_of picture_header front back pps extension_for answered read_rbsp before_fields rbsp_of partition_record record_of references rect_slices split_count slice_at slices_from split_total bits_of_delta delta_of_bits subpic_ids flag_over1 record_checks no_tiles picture_layout layout_asked or_else many walk_element ◌>>=◌ parse over sizes_for grid_sizes as_tile_grid grid_answer sizes_of plan_answer_of declined_with slices_in_tile
+unfolding cases outcome extension_of slices_of_tiles cover_for places ones taken_while_more extension_bits unless_refused onward u_read stops zeros_at ue_after ue_within ue_read se_read trailing_read demanded bit_at bits_at bit_list signed_of output_after escape_answer escape_out zero_run is_escape needs_escape unescape_from unescape escape_byte escape_run escape_end escape_from escape boundary span first_bad tile_x tile_y tile_row_height in_last_row height_coded inherited_height split_coded split_heights num_slices_in_tile last_slice_of some_at_least default_advance tile_after_delta delta_leaves delta_refused delta_uncodable next_tile next_position size_checks inherited_checks split_checks move_checks entry_checks up_to stacked group_slices plan groups_at groups_at_tile or_at lowest answer lowest_cover cover_of in_ctbs tile_grid explicit_checks axis_checks grid_checks grid_of grid_checks_of slices_coded delta_flag_checks partition_checks from_walk unless layout plan_of sum explicit_sizes uniform_size tail_size uniform_sizes axis_sizes among slice_heights_of entry_group last_group after walk answer_of after_fields parse_pps no_partition chroma deblocking partition_from extension_from lengths_fit counts_fit head conf_win scaling_win kind partition partition_of picture_header front back pps extension_for answered read_rbsp before_fields rbsp_of partition_record record_of references rect_slices split_count slice_at slices_from split_total bits_of_delta delta_of_bits subpic_ids flag_over1 record_checks no_tiles picture_layout layout_asked or_else many walk_element ◌>>=◌ parse over sizes_for grid_sizes as_tile_grid grid_answer sizes_of plan_answer_of declined_with slices_in_tile
 all-cases = refl

@@ -6,4 +6,4 @@ pub returns-then-nal-lt2 : goal.returns-then-nal-lt2
 returns-then-nal-lt2 c = header-none _ c.if-nal-lt2.true
 
 pub returns : goal.returns
-returns c = header_made _ (omega arith) (omega (arith, c.shared_slice_known-1.given 0)) (omega (arith, c.shared_slice_known-1.given 1))
+returns c = header_made _ (omega arith) (omega arith) (omega arith)

@@ -4,7 +4,7 @@ use native.Mathlib.Nat.{le_trans}
 use native.Mathlib.Omega.{arith}
 use mathlib.Core.Path.{sym, ap, ◌∙◌}
 use lib.ListN.{length}
-use Rattle.nal.specs.declared.ByteCount.TheVariants.{Bytes}
+use Rattle.std.specs.Prelude.{Ok}
 use Rattle.nal.specs.Escape.{unescape}
 use Rattle.nal.specs.Answers.{unescape-long, unescape-short, unescape-done}
 use Rattle.nal.specs.Lengths.{unescape-length}
@@ -19,28 +19,28 @@ pub returns-then-out-ebsp : goal.returns-then-out-ebsp
 returns-then-out-ebsp c = let within : length c.args.ebsp.now ≤ 65535 = omega arith in
     let short : length c.args.out.now < length c.args.ebsp.now = omega arith in record { value = sym (unescape-short _ _ within short).0; out_after = sym (unescape-short _ _ within short).1 }
 
-pub loop-i-init : goal.loop-i-init
+pub loop-b-init : goal.loop-b-init
 unfolding unescape
-loop-i-init c = (omega arith, omega arith, put_start _ _)
+loop-b-init c = (omega arith, put_start _ _)
 
 pub bounds-out-put : goal.bounds-out-put
-bounds-out-put c = omega (arith, c.loop-i.invariant.2.same)
+bounds-out-put c = omega (arith, c.loop-b.invariant.1.same)
 
-pub loop-i-preserved-then-b-gt3 : goal.loop-i-preserved-then-b-gt3
-loop-i-preserved-then-b-gt3 c = (omega arith, omega arith, put_byte c.loop-i.invariant.2 (unescape-over _ _ _ c.loop-i-test.true c.if-b-gt3.true))
+pub loop-b-preserved-then-b-gt3 : goal.loop-b-preserved-then-b-gt3
+loop-b-preserved-then-b-gt3 c = (omega arith, put_byte c.loop-b.invariant.1 (unescape-over c.args.ebsp.now c.loop-b.z c.loop-b.b-index (omega arith) c.if-b-gt3.true))
 
 pub bounds-out-put-then-not-is_escape : goal.bounds-out-put-then-not-is_escape
-bounds-out-put-then-not-is_escape c = omega (arith, c.loop-i.invariant.2.same)
+bounds-out-put-then-not-is_escape c = omega (arith, c.loop-b.invariant.1.same)
 
-pub loop-i-preserved-then-not-is_escape : goal.loop-i-preserved-then-not-is_escape
-loop-i-preserved-then-not-is_escape c = rw c.zero_run-z.ensures (omega arith, omega arith, put_byte c.loop-i.invariant.2 (unescape-kept _ _ _ c.loop-i-test.true (sym c.is_escape.ensures ∙ c.if-not-is_escape.true)))
+pub loop-b-preserved-then-not-is_escape : goal.loop-b-preserved-then-not-is_escape
+loop-b-preserved-then-not-is_escape c = rw c.zero_run-z.ensures (omega arith, put_byte c.loop-b.invariant.1 (unescape-kept c.args.ebsp.now c.loop-b.z c.loop-b.b-index (omega arith) (sym c.is_escape.ensures ∙ c.if-not-is_escape.true)))
 
-pub loop-i-preserved : goal.loop-i-preserved
-loop-i-preserved c = (omega arith, omega arith, put-none c.loop-i.invariant.2 (unescape_dropped _ _ _ c.loop-i-test.true (sym c.is_escape.ensures ∙ c.if-not-is_escape.false)))
+pub loop-b-preserved : goal.loop-b-preserved
+loop-b-preserved c = (omega arith, put-none c.loop-b.invariant.1 (unescape_dropped c.args.ebsp.now c.loop-b.z c.loop-b.b-index (omega arith) (sym c.is_escape.ensures ∙ c.if-not-is_escape.false)))
 
 pub shape_of-out : goal.shape_of-out
-shape_of-out c = c.loop-i.invariant.2.same
+shape_of-out c = c.loop-b.invariant.1.same
 
 pub returns : goal.returns
-returns c = let all = put-done c.loop-i.invariant.2 (unescape-end _ _ _ c.loop-i.invariant.0 c.loop-i-test.false) (le_trans (unescape-length _) c.if-out-ebsp.false) in
-    let right = unescape-done c.args.ebsp.now c.args.out.now c.if-ebsp-gt-MAX_BYTES.false c.if-out-ebsp.false in record { value = ap Bytes all.0 ∙ sym right.0; out_after = all.1 ∙ sym right.1 }
+returns c = let all = put-done c.loop-b.invariant.1 (unescape-end c.args.ebsp.now c.loop-b.z c.loop-b.b-index (omega arith)) (le_trans (unescape-length _) c.if-out-ebsp.false) in
+    let right = unescape-done c.args.ebsp.now c.args.out.now c.if-ebsp-gt-MAX_BYTES.false c.if-out-ebsp.false in record { value = ap Ok all.0 ∙ sym right.0; out_after = all.1 ∙ sym right.1 }

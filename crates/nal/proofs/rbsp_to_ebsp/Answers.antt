@@ -2,8 +2,8 @@ use Prim.Native.Nat.{◌<◌}
 use native.Mathlib.Omega.{arith}
 use mathlib.Core.Path.{sym, ap, ◌∙◌}
 use lib.ListN.{length}
+use Rattle.std.specs.Prelude.{Ok}
 use borrow.Author.Tests.{leb-true, leb-false}
-use Rattle.nal.specs.declared.ByteCount.TheVariants.{Bytes}
 use Rattle.nal.specs.Answers.{escape-long, escape-short, escape-done}
 use Rattle.nal.proofs.rbsp_to_ebsp.Goals as goal
 
@@ -17,4 +17,4 @@ pub escape_into-requires : goal.escape_into-requires
 escape_into-requires c = leb-true _ _ (sym c.fits_in.ensures ∙ c.if-not-fits_in.false)
 
 pub returns : goal.returns
-returns c = let right = escape-done c.args.rbsp.now c.args.out.now c.if-rbsp-gt-MAX_BYTES.false (leb-true _ _ (sym c.fits_in.ensures ∙ c.if-not-fits_in.false)) in record { value = ap Bytes c.escape_into.ensures.value ∙ sym right.0; out_after = c.escape_into.ensures.out_after ∙ sym right.1 }
+returns c = let right = escape-done c.args.rbsp.now c.args.out.now c.if-rbsp-gt-MAX_BYTES.false (leb-true _ _ (sym c.fits_in.ensures ∙ c.if-not-fits_in.false)) in record { value = ap Ok c.escape_into.ensures.value ∙ sym right.0; out_after = c.escape_into.ensures.out_after ∙ sym right.1 }

@@ -5,10 +5,8 @@ use Rattle.pps_report.proofs.report.report_of.Goals as goal
 
 pub returns-in-Refused : goal.returns-in-Refused
 unfolding lengths_fit
-returns-in-Refused c =
-    told-refused _ _ _ _ _ _ c.parse_pps-read.ensures refl refl _ _ c.in-Refused.is c.refused_report.ensures
+returns-in-Refused c = told-refused _ _ _ _ _ _ c.parse_pps-read.ensures refl refl _ _ c.in-Refused.is refl
 
 pub returns-in-Accepted : goal.returns-in-Accepted
 unfolding lengths_fit
-returns-in-Accepted c =
-    told-accepted _ _ _ _ _ _ c.parse_pps-read.ensures refl refl _ _ c.in-Accepted.is c.accepted_report.ensures
+returns-in-Accepted c = told-accepted _ _ _ _ _ _ c.parse_pps-read.ensures refl refl _ _ c.in-Accepted.is refl

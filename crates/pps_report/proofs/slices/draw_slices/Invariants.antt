@@ -1,6 +1,0 @@
-use Rattle.std.proofs.Common.{◌-◌}
-use Rattle.partition.specs.Grid.{max_slices}
-use Rattle.pps_report.proofs.slices.draw_slices.Given as goal
-
-abbrev pub decreases-loop-i : goal.decreases-loop-i
-decreases-loop-i g l = max_slices - l.i
