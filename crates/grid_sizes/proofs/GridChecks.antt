@@ -1,94 +1,24 @@
 -- The checks of a grid as the code makes them, one function for each part of the list.
-use mathlib.Core.Path.{◌≡◌, refl, sym, ap, ◌∙◌}
-use mathlib.Core.List.{List, [], ◌∷◌, ◌++◌}
-use mathlib.Core.Bool.{Bool, true, false, cond}
+use mathlib.Core.Path.{◌≡◌, ap, ◌∙◌}
+use mathlib.Core.List.{List, ◌++◌}
 use Prim.Native.Nat.{ℕ, ◌/◌, ◌≤◌, ◌<◌, min}
 use native.Mathlib.Nat.{div-le_self, le_trans}
 use native.Mathlib.Omega.{arith}
-use lib.Dec.{ltb, leb, lit<}
+use lib.Dec.{lit<}
 use lib.ListN.{length}
-use borrow.Author.Tests.{lt-ltb, le-ltb, ltb-false, leb-true, leb-false, eq-eqb, ne_eqb, eqb-false}
+use borrow.Author.Tests.{lt-ltb, le-ltb, ltb-false, eqb-false}
 use Rattle.partition.specs.Sizes.{sum, explicit_sizes, axis_sizes}
 use Rattle.partition.proofs.Sizes.{some_size}
 use Rattle.partition.specs.Grid.{max_tile_columns, max_tiles}
-use Rattle.partition.specs.Checks.{Check, refuse, fine, refused_with, first_bad, number_of, AllPass, passes, first-left, first-right, fails, goes_on, ends, Numbered, zero-fine, number-refused}
-use Rattle.partition.specs.Entry.{some_at_least}
+use Rattle.partition.specs.Checks.{Check, fine, refused_with, first_bad, number_of, AllPass, passes, first-left, first-right, fails, Numbered, zero-fine, number-refused}
 use Rattle.partition.specs.Partition.{in_ctbs, tile_grid, explicit_checks, axis_checks, grid_checks}
-use Rattle.std.specs.Prelude.{Option, Some, None, Ok, Err, ok_or}
+use Rattle.std.specs.Prelude.{Ok, Err}
 use Rattle.refusal.specs.declared.Refusal.{Refusal}
-use Rattle.refusal.specs.declared.Refusal.TheVariants.{CtuSize, TileSizesSum}
+use Rattle.refusal.specs.declared.Refusal.TheVariants.{CtuSize}
 use Rattle.refusal.specs.Numbers.{number}
 use Rattle.refusal.proofs.Numbers.{number_above0}
 use Rattle.grid_sizes.specs.declared.GridSizes.{GridSizes}
 use Rattle.grid_sizes.specs.Answers.{grid_of_sizes, FitsTable, with_number, sizes_for, grid_sizes}
-
--- ---- the explicit sizes
-
-module _ (w h : ℕ) (ws hs : List ℕ) where
-  abbrev explicit_number : ℕ
-  explicit_number = number_of (first_bad (explicit_checks w h ws hs))
-
-  pub no-columns : length ws ≡ 0 → 10 ≡ explicit_number
-  unfolding explicit_checks
-  no-columns e = fails 10 _ _ (eq-eqb (length ws) 0 e)
-
-  module _ (cs : length ws ≡ 0 → ⊥) where
-    pub no_rows : length hs ≡ 0 → 10 ≡ explicit_number
-    unfolding explicit_checks
-    no_rows e = goes_on 10 _ _ _ (ne_eqb (length ws) 0 cs) (fails 10 _ _ (eq-eqb (length hs) 0 e))
-
-    module _ (rs : length hs ≡ 0 → ⊥) where
-      after-counts : (n : ℕ) → n ≡ number_of (first_bad (refuse 11 (some_at_least w ws) ∷ refuse 11 (some_at_least h hs) ∷ [])) → n ≡ explicit_number
-      unfolding explicit_checks
-      after-counts n e = goes_on 10 n _ _ (ne_eqb (length ws) 0 cs) (goes_on 10 n _ _ (ne_eqb (length hs) 0 rs) e)
-
-      pub wide-column : some_at_least w ws ≡ true → 11 ≡ explicit_number
-      wide-column e = after-counts 11 (fails 11 _ _ e)
-
-      pub high-row : some_at_least w ws ≡ false → some_at_least h hs ≡ true → 11 ≡ explicit_number
-      high-row e f = after-counts 11 (goes_on 11 11 _ _ e (fails 11 _ _ f))
-
-      pub explicit-pass : some_at_least w ws ≡ false → some_at_least h hs ≡ false → 0 ≡ explicit_number
-      explicit-pass e f = after-counts 0 (goes_on 11 0 _ _ e (goes_on 11 0 _ _ f ends))
-
--- ---- an axis
-
-module _ (es : List ℕ) (total limit : ℕ) where
-  abbrev axis_number : ℕ
-  axis_number = number_of (first_bad (axis_checks es total limit))
-
-  pub axis-passed : leb (sum (explicit_sizes es)) total ≡ false → 12 ≡ axis_number
-  unfolding axis_checks
-  axis-passed q = fails 12 _ _ (lt-ltb total (sum (explicit_sizes es)) (leb-false (sum (explicit_sizes es)) total q))
-
-  module _ (n : ℕ) (q : leb (sum (explicit_sizes es)) total ≡ true) (hn : n ≡ length (axis_sizes es total)) where
-    fitting : ltb total (sum (explicit_sizes es)) ≡ false
-    fitting = le-ltb total (sum (explicit_sizes es)) (leb-true (sum (explicit_sizes es)) total q)
-
-    pub axis-over : limit < n → 13 ≡ axis_number
-    unfolding axis_checks
-    axis-over l = goes_on 12 13 _ _ fitting (fails 13 _ _ (lt-ltb limit (length (axis_sizes es total)) (omega arith)))
-
-    pub axis-within : n ≤ limit → 0 ≡ axis_number
-    unfolding axis_checks
-    axis-within l = goes_on 12 0 _ _ fitting (goes_on 13 0 _ _ (le-ltb limit (length (axis_sizes es total)) (omega arith)) ends)
-
--- as the count of its sizes tells
-module _ (es : List ℕ) (total limit : ℕ) (o : Option ℕ) (h : o ≡ cond (leb (sum (explicit_sizes es)) total) (Some (length (axis_sizes es total))) None) where
-  pub count-none : (e : Refusal) → ok_or o TileSizesSum ≡ Err e → number e ≡ number_of (first_bad (axis_checks es total limit))
-  unfolding number
-  count-none e q = split (leb (sum (explicit_sizes es)) total) refl (ap (λ (x : Option ℕ). ok_or x TileSizesSum) (sym h) ∙ q)
-    where
-      split : (b : Bool) → leb (sum (explicit_sizes es)) total ≡ b → ok_or (cond b (Some (length (axis_sizes es total))) None) TileSizesSum ≡ Err e → number e ≡ number_of (first_bad (axis_checks es total limit))
-      split true k z = absurd (let z : ◌≡◌ {A = ℕ} 0 1 = cc in omega arith)
-      split false k z = let t : TileSizesSum ≡ e = cc in ap number (sym t) ∙ axis-passed es total limit k
-
-  pub count-some : (n : ℕ) → ok_or o TileSizesSum ≡ Ok n → (leb (sum (explicit_sizes es)) total ≡ true) × (n ≡ length (axis_sizes es total))
-  count-some n q = split (leb (sum (explicit_sizes es)) total) refl (ap (λ (x : Option ℕ). ok_or x TileSizesSum) (sym h) ∙ q)
-    where
-      split : (b : Bool) → leb (sum (explicit_sizes es)) total ≡ b → ok_or (cond b (Some (length (axis_sizes es total))) None) TileSizesSum ≡ Ok n → (leb (sum (explicit_sizes es)) total ≡ true) × (n ≡ length (axis_sizes es total))
-      split true k z = (k, cc)
-      split false k z = absurd (let z : ◌≡◌ {A = ℕ} 0 1 = cc in omega arith)
 
 -- an axis that passes fits a table of at least the limit
 fits-table : (es : List ℕ) (total limit n count : ℕ) → (length es ≡ 0 → ⊥) → first_bad (axis_checks es total limit) ≡ fine → limit ≤ n → count ≡ length (axis_sizes es total)

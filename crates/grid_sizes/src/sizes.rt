@@ -1,4 +1,6 @@
 // Sizes on an axis of the grid, written, and their refusals (H.266 6.5.1, equations 14 and 15; 7.4.3.5).
+#![tactic(auto, unfolding(partition::specs::Partition::explicit_checks, partition::specs::Partition::axis_checks, partition::specs::Checks::first_bad, partition::specs::Checks::number_of, refusal::specs::Numbers::refused, refusal::specs::Numbers::number))]
+
 ghost use Rattle.std.specs.Prelude.{◌≡◌, ◌++◌, ◌≤◌, length, drop, IfOk};
 ghost use Rattle.refusal.specs.Numbers.{refused};
 ghost use Rattle.partition.specs.Sizes.{axis_sizes, Fit};
@@ -39,7 +41,9 @@ pub fn axis_answer(exp_minus1: &[u32], total: CtbCount, limit: u32) -> Result<u3
     Ok(count)
 }
 
-// The sizes of an axis, from the front of a table on.
+// The sizes of an axis, from the front of a table on. Its loop ends where the axis does: a table has 990 places, an axis
+// mostly few sizes.
+#[tactic(auto)]
 pub fn sizes_into(exp_minus1: &[u32], total: CtbCount, out: &mut [u32])
     requires { (1 ≤ length exp_minus1.now) × Fit exp_minus1.now total.0 × (length (axis_sizes exp_minus1.now total.0) ≤ length out.old) }
     ensures { out.new ≡ axis_sizes exp_minus1.now total.0 ++ drop (length (axis_sizes exp_minus1.now total.0)) out.old }

@@ -17,7 +17,7 @@ use Rattle.slice_loop.specs.declared.TileIdx.{TileIdx}
 use Rattle.slice_loop.specs.Loop.{position}
 use Rattle.question_tests.specs.Tables.{entry_with}
 use Rattle.question_tests.specs.Steps.{Stepped}
-use Rattle.question_tests.specs.declared.entry.EntryStep.{EntryStep}
+use Rattle.question_tests.specs.declared.entry.EntryPlace.{EntryPlace}
 
 -- a refusal of the first of two lists, and one of the second
 by-left : (cs ds : List Check) (f : Refusal) → number f ≡ number_of (first_bad cs) → number f ≡ number_of (first_bad (cs ++ ds))
@@ -49,7 +49,7 @@ module _ (C R row : ℕ) (d : Bool) (N i t p : ℕ) (e : RectSliceEntry) (hs : L
   abbrev moves : Bool → List Check
   moves more = move_checks C (R * C) d more t entry
 
-  abbrev Steps : Result EntryStep Refusal → Type 0
+  abbrev Steps : Result EntryPlace Refusal → Type 0
   Steps r = Stepped C R row d N k entry r
 
   numbered-sizes : Numbered sizes
@@ -97,6 +97,6 @@ module _ (C R row : ℕ) (d : Bool) (N i t p : ℕ) (e : RectSliceEntry) (hs : L
         by-moves f q = refuses f (to-next (number f) q)
 
         pub steps : (x : TileIdx) → 0 ≡ number_of (first_bad (moves (leb (i + n) N))) → (leb (i + n) N ≡ true → x.0 ≡ next_tile C d t entry)
-            → Steps (Ok (record { slice = record { 0 = i + n }; tile = x }))
+            → Steps (Ok (record { slice = record { 0 = i + n }; tile = x; preceding_height = e.height }))
         unfolding entry_checks next_position refused
-        steps x q u = record { number = to-next 0 q; next = (s.0, λ l. u (le-leb (i + n) N l)) }
+        steps x q u = record { number = to-next 0 q; next = (s.0, λ l. u (le-leb (i + n) N l), refl) }

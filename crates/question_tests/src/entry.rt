@@ -16,6 +16,22 @@ use refusal::Refusal;
 use slice_loop::{CtbCount, SliceIdx, SliceLoopCtx, TileIdx};
 use tile_sizes::{num_slices_in_tile, some_at_least};
 
+// Where an entry stands.
+#[derive(Clone, Copy, PartialEq, Eq, Debug)]
+pub struct EntryPlace {
+    pub slice: SliceIdx,
+    pub tile: TileIdx,
+    pub preceding_height: u32,
+}
+
+impl EntryPlace {
+    pub const FIRST: EntryPlace = EntryPlace {
+        slice: SliceIdx(0),
+        tile: TileIdx(0),
+        preceding_height: 0,
+    };
+}
+
 // The slice stays in the grid (15).
 fn size_refusal(ctx: SliceLoopCtx, tile: TileIdx, e: RectSliceEntry) -> Result<(), Refusal>
     ensures { (hs : List ℕ) → refused result ≡ number_of (first_bad
@@ -28,18 +44,13 @@ fn size_refusal(ctx: SliceLoopCtx, tile: TileIdx, e: RectSliceEntry) -> Result<(
 }
 
 // An uncoded height is the inherited one (26).
-fn inherited_refusal(
-    ctx: SliceLoopCtx,
-    slice: SliceIdx,
-    tile: TileIdx,
-    preceding: u32,
-    e: RectSliceEntry,
-) -> Result<(), Refusal>
-    ensures { let k = position slice.0 tile.0 preceding in
+fn inherited_refusal(ctx: SliceLoopCtx, at: EntryPlace, e: RectSliceEntry) -> Result<(), Refusal>
+    ensures { let k = position at.slice.0 at.tile.0 at.preceding_height in
         ((hs : List ℕ) → refused result ≡ number_of (first_bad (inherited_checks asking ctx.num_tile_columns
         ctx.num_tile_rows ctx.delta_present k (entry_with e hs)))) }
 {
-    if !ctx.height_coded(tile) && e.height != ctx.inherited_height(tile, preceding) {
+    let coded = ctx.height_coded(at.tile);
+    if !coded && e.height != ctx.inherited_height(at.tile, at.preceding_height) {
         return Err(Refusal::Contradiction);
     }
     Ok(())
@@ -115,36 +126,31 @@ fn move_refusal(
     Ok(next)
 }
 
-// Where the next entry stands.
-#[derive(Clone, Copy, PartialEq, Eq, Debug)]
-pub struct EntryStep {
-    pub slice: SliceIdx,
-    pub tile: TileIdx,
-}
-
-// The tests of an entry at a slice index and a tile, with its split heights.
+// The tests of an entry with its split heights, and where the next one stands.
 #[tactic(auto)]
 pub fn entry_step(
     ctx: SliceLoopCtx,
     row_heights: &[u32],
-    slice: SliceIdx,
-    tile: TileIdx,
-    preceding: u32,
+    at: EntryPlace,
     e: RectSliceEntry,
     heights: &[u32],
-) -> Result<EntryStep, Refusal>
+) -> Result<EntryPlace, Refusal>
     requires { (ctx.num_tile_rows * ctx.num_tile_columns ≤ 4294967295)
         × (ctx.num_slices_minus1.0 ≤ max_slices_minus1) }
-    ensures { let row = tile_row_height row_heights.now ctx.num_tile_columns tile.0 in
-        let k = position slice.0 tile.0 preceding in
+    ensures { let row = tile_row_height row_heights.now ctx.num_tile_columns at.tile.0 in
+        let k = position at.slice.0 at.tile.0 at.preceding_height in
         Stepped ctx.num_tile_columns ctx.num_tile_rows row ctx.delta_present
         ctx.num_slices_minus1.0 k (entry_with e heights.now) result }
 {
-    let row = ctx.row_height(row_heights, tile);
-    size_refusal(ctx, tile, e)?;
-    inherited_refusal(ctx, slice, tile, preceding, e)?;
-    let slices = split_refusal(ctx, slice, row, e, heights)?;
-    let slice = SliceIdx(slice.0 + slices);
-    let tile = move_refusal(ctx, tile, slice.0 <= ctx.num_slices_minus1.0, e)?;
-    Ok(EntryStep { slice, tile })
+    let row = ctx.row_height(row_heights, at.tile);
+    size_refusal(ctx, at.tile, e)?;
+    inherited_refusal(ctx, at, e)?;
+    let slices = split_refusal(ctx, at.slice, row, e, heights)?;
+    let slice = SliceIdx(at.slice.0 + slices);
+    let tile = move_refusal(ctx, at.tile, slice.0 <= ctx.num_slices_minus1.0, e)?;
+    Ok(EntryPlace {
+        slice,
+        tile,
+        preceding_height: e.height,
+    })
 }

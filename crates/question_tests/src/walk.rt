@@ -9,11 +9,11 @@ ghost use Rattle.pps_tables.specs.Lent.{slices_of};
 ghost use Rattle.question_tests.specs.Questions.{entries_in};
 ghost use Rattle.question_tests.specs.Steps.{grid_before};
 
-use super::entry::entry_step;
+use super::entry::{EntryPlace, entry_step};
 use pps_lent::place_after;
 use pps_tables::SliceTables;
 use refusal::Refusal;
-use slice_loop::{SliceIdx, SliceLoopCtx, TileIdx};
+use slice_loop::{SliceIdx, SliceLoopCtx};
 
 // The tests of the slice loop over `count` entries.
 pub fn walk_refusal(
@@ -36,25 +36,20 @@ pub fn walk_refusal(
         delta_present: deltas_on,
         num_slices_minus1: n,
     };
-    let mut slice = SliceIdx(0);
-    let mut tile = TileIdx(0);
-    let mut preceding: u32 = 0;
+    let mut at = EntryPlace::FIRST;
     let mut from: usize = 0;
     for i in 0..count {
-        if slice.0 >= n.0 {
+        if at.slice.0 >= n.0 {
             return Err(Refusal::Contradiction);
         }
         let e = slices.entry(i);
         let splits = slices.split_count(i);
         let to = place_after(slices.split_heights.len(), from, splits);
         let heights = &slices.split_heights[from..to];
-        let step = entry_step(ctx, row_heights, slice, tile, preceding, e, heights)?;
-        slice = step.slice;
-        tile = step.tile;
-        preceding = e.height;
+        at = entry_step(ctx, row_heights, at, e, heights)?;
         from = to;
     }
-    if slice.0 < n.0 {
+    if at.slice.0 < n.0 {
         return Err(Refusal::Contradiction);
     }
     Ok(())

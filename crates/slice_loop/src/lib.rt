@@ -60,6 +60,7 @@ impl SliceLoopCtx {
         (tile_idx.0 as u64) < tiles
     }
 
+    #[tactic(auto, unfolding(partition::specs::Entry::tile_x, partition::specs::Entry::tile_y))]
     pub fn place(self, tile_idx: TileIdx) -> TilePlace
         ensures { (result.x ≡ tile_x self.num_tile_columns tile_idx.0) × (result.y ≡ tile_y self.num_tile_columns tile_idx.0) }
     {
@@ -165,6 +166,7 @@ impl SliceLoopCtx {
     }
 
     // The 6.5.1 tile advance without a delta.
+    #[tactic(auto, unfolding(partition::specs::Entry::default_advance, crate::specs::Answers::tile_idx_of))]
     pub fn default_advance(self, tile_idx: TileIdx, w_m1: u32, h_m1: u32) -> TileIdx
         ensures { result ≡ tile_idx_of (default_advance self.num_tile_columns tile_idx.0 w_m1 h_m1) }
     {
@@ -178,6 +180,7 @@ impl SliceLoopCtx {
     }
 
     // A delta that has no se(v) code (25).
+    #[tactic(auto, unfolding(partition::specs::Entry::delta_uncodable))]
     pub fn delta_uncodable(delta: i32) -> bool
         ensures { result ≡ delta_uncodable delta }
     {

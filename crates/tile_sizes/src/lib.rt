@@ -21,14 +21,12 @@ pub const MAX_NUM_SLICES_MINUS1: u32 = 999;
 pub const MAX_SLICES: u32 = MAX_NUM_SLICES_MINUS1 + 1;
 
 // A grid of so many columns and rows is within the limits.
+#[tactic(auto, unfolding(crate::specs::Limits::within_limits))]
 pub fn within_limits(columns: usize, rows: usize) -> bool
     ensures { result ≡ within_limits columns rows }
 {
-    let most = MAX_TILES as usize;
-    if columns == 0 {
-        return rows == 0;
-    }
-    (columns <= MAX_TILE_COLUMNS as usize) & (rows <= most / columns)
+    let most_rows = (MAX_TILES as usize).checked_div(columns).unwrap_or(0);
+    columns <= MAX_TILE_COLUMNS as usize && rows <= most_rows
 }
 
 // A length in luma samples, in blocks of 2^(5 + the CTU size field), rounded up. A field over 5 counts as 5.
