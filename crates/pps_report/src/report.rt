@@ -1,9 +1,10 @@
 // What is told of a unit: what reading answers, with the grid, the plan and the cover.
 ghost use Rattle.std.specs.Prelude.{◌≡◌};
-ghost use Rattle.pps_report.specs.Told.{refusal_told, refused_with};
+ghost use Rattle.pps_report.specs.Told.{refusal_told};
+ghost use Rattle.refusal.specs.Numbers.{refused};
 
 use crate::{COLUMNS, LARGEST, ROWS, SLICES};
-use pps_answer::{AcceptedPps, PpsAnswer};
+use pps_answer::AcceptedPps;
 use pps_read::parse_pps;
 use pps_record::lengths::{
     RECT_SLICES, SPLIT_HEIGHTS, SUBPIC_IDS, TILE_COLUMN_WIDTHS, TILE_ROW_HEIGHTS,
@@ -101,9 +102,9 @@ fn accepted_report(a: AcceptedPps, lent: LentTables<'_>) -> Report {
     }
 }
 
-// Reads a unit into tables of the stated lengths, and asks the questions of it; or the number of its refusal.
-pub fn report_of(nal: &[u8]) -> Result<Report, u8>
-    ensures { refused_with result ≡ refusal_told nal.now }
+// Reads a unit into tables of the stated lengths, and asks the questions of it.
+pub fn report_of(nal: &[u8]) -> Result<Report, Refusal>
+    ensures { refused result ≡ refusal_told nal.now }
 {
     let mut work = [0u8; LARGEST];
     let mut subpic_ids = [0u32; SUBPIC_IDS];
@@ -111,7 +112,7 @@ pub fn report_of(nal: &[u8]) -> Result<Report, u8>
     let mut tile_row_heights = [0u32; TILE_ROW_HEIGHTS];
     let mut entries = [[0u32; ENTRY_LEN]; RECT_SLICES];
     let mut split_heights = [0u32; SPLIT_HEIGHTS];
-    let read = parse_pps(
+    let accepted = parse_pps(
         nal,
         &mut work,
         &mut subpic_ids,
@@ -119,21 +120,15 @@ pub fn report_of(nal: &[u8]) -> Result<Report, u8>
         &mut tile_row_heights,
         &mut entries,
         &mut split_heights,
-    );
-    let answer = read.answer;
-    match answer {
-        PpsAnswer::Refused(number) => Err(number),
-        PpsAnswer::Accepted(a) => {
-            let lent = LentTables {
-                subpic_ids: &subpic_ids,
-                tile_column_widths: &tile_column_widths,
-                tile_row_heights: &tile_row_heights,
-                slices: SliceTables {
-                    entries: &entries,
-                    split_heights: &split_heights,
-                },
-            };
-            Ok(accepted_report(a, lent))
-        }
-    }
+    )?;
+    let lent = LentTables {
+        subpic_ids: &subpic_ids,
+        tile_column_widths: &tile_column_widths,
+        tile_row_heights: &tile_row_heights,
+        slices: SliceTables {
+            entries: &entries,
+            split_heights: &split_heights,
+        },
+    };
+    Ok(accepted_report(accepted, lent))
 }

@@ -3,14 +3,13 @@
 use Rattle.std.specs.Prelude.{ℕ, ◌≡◌, pos, List}
 use Rattle.std.proofs.Common.{ap, ◌∙◌}
 use Rattle.pps_answer.specs.ParsePps.{ReadOutcome, outcome}
-use Rattle.pps_answer.specs.declared.PpsAnswer.{PpsAnswer}
-use Rattle.pps_answer.specs.declared.PpsAnswer.TheVariants as answer
-use Rattle.pps_answer.specs.declared.PpsRead.{PpsRead}
+use Rattle.pps_answer.specs.Answers.{PpsAnswer, Accepted, Refused}
 use Rattle.pps_record.specs.Absent.{no_partition}
 use Rattle.pps_record.specs.declared.VvcPps.{VvcPps}
 use Rattle.pps_record.specs.declared.VvcPpsPartition.{VvcPpsPartition}
 use Rattle.pps_record.specs.declared.VvcQpOffsets.{VvcQpOffsets}
 use Rattle.pps_syntax.specs.FromRecord.{Lent}
+use Rattle.pps_syntax.specs.Record.{no_triples}
 use Rattle.vvc_pps.specs.declared.reading.VvcPpsRead.{VvcPpsRead}
 
 -- zero throughout, beside a block
@@ -92,16 +91,9 @@ zeros_beside block =
 unfoldable pub no_pps : VvcPps
 no_pps = zeros_beside no_partition
 
-abbrev pub refused_read : ℕ → List VvcQpOffsets → VvcPps → VvcPpsRead
-refused_read k triples none = record { refused = k; bytes_taken = 0; pps = none; triples = triples }
-
-abbrev pub answer_read : List VvcQpOffsets → PpsAnswer → VvcPpsRead
-answer_read triples (answer.Accepted a) =
-    record { refused = 0; bytes_taken = a.bytes_taken; pps = a.pps; triples = triples }
-answer_read triples (answer.Refused k) = refused_read k triples no_pps
-
-abbrev pub pps_read : PpsRead → VvcPpsRead
-pps_read r = answer_read r.triples r.answer
+unfoldable pub pps_read : PpsAnswer → VvcPpsRead
+pps_read (Accepted a) = record { refused = 0; bytes_taken = a.bytes_taken; pps = a.pps; triples = a.triples }
+pps_read (Refused k) = record { refused = k; bytes_taken = 0; pps = no_pps; triples = no_triples }
 
 -- with what is left in the work buffer and in the tables
 pub record HeldRead : Type 0 where
@@ -116,6 +108,6 @@ abbrev pub read_held : ReadOutcome → HeldRead
 read_held o = held_read (pps_read o.answer) o.work o.tables
 
 -- ---- how code comes to it
-pub read_held_lem : (r : VvcPpsRead) (o : PpsRead) (work : List ℕ) (t : Lent) (all : ReadOutcome)
+pub read_held_lem : (r : VvcPpsRead) (o : PpsAnswer) (work : List ℕ) (t : Lent) (all : ReadOutcome)
     → r ≡ pps_read o → outcome o work t ≡ all → held_read r work t ≡ read_held all
 read_held_lem r o work t all p q = ap (λ (a : VvcPpsRead). held_read a work t) p ∙ ap read_held q

@@ -1,14 +1,16 @@
 // Reading a picture parameter set. A returned slice doesn't cross, so the part of the work buffer that the set took is
 // told by its length alone.
 ghost use Rattle.std.specs.Prelude.{◌≡◌};
+ghost use Rattle.pps_answer.specs.Answers.{said};
 ghost use Rattle.pps_answer.specs.ParsePps.{parse_pps};
 ghost use Rattle.pps_tables.specs.Mutable.{before, after};
 ghost use Rattle.vvc_pps.specs.PpsAnswer.{pps_read, held_read, read_held};
 
 use crate::no_pps::no_pps;
-use pps_answer::{PpsAnswer, PpsRead};
+use pps_answer::AcceptedPps;
 use pps_record::{VvcPps, VvcQpOffsets};
 use pps_tables::ENTRY_LEN;
+use refusal::Refusal;
 
 #[repr(C)]
 #[derive(Clone, Copy)]
@@ -19,28 +21,30 @@ pub struct VvcPpsRead {
     pub triples: [VvcQpOffsets; 6],
 }
 
-fn of_pps_read(r: PpsRead) -> VvcPpsRead
-    ensures { result ≡ pps_read r }
-{
-    let triples = r.triples;
-    let answer = r.answer;
-    match answer {
-        PpsAnswer::Accepted(a) => {
-            let pps = a.pps;
-            VvcPpsRead {
-                refused: 0,
-                bytes_taken: a.bytes_taken,
-                pps,
-                triples,
+impl From<Result<AcceptedPps, Refusal>> for VvcPpsRead {
+    ghost from_gives = { λ answer read. read ≡ pps_read (said answer) };
+
+    fn from(answer: Result<AcceptedPps, Refusal>) -> VvcPpsRead {
+        match answer {
+            Ok(a) => {
+                let pps = a.pps;
+                let triples = a.triples;
+                VvcPpsRead {
+                    refused: 0,
+                    bytes_taken: a.bytes_taken,
+                    pps,
+                    triples,
+                }
             }
-        }
-        PpsAnswer::Refused(k) => {
-            let pps = no_pps();
-            VvcPpsRead {
-                refused: k,
-                bytes_taken: 0,
-                pps,
-                triples,
+            Err(refusal) => {
+                let pps = no_pps();
+                let triples = [VvcQpOffsets([0; 3]); 6];
+                VvcPpsRead {
+                    refused: refusal.number(),
+                    bytes_taken: 0,
+                    pps,
+                    triples,
+                }
             }
         }
     }
@@ -60,7 +64,7 @@ pub extern "C" fn vvc_parse_pps(
         let left = after subpic_ids tile_column_widths tile_row_heights entries split_heights in
         held_read result work.new left ≡ read_held (parse_pps nal.now work.old given) }
 {
-    of_pps_read(pps_read::parse_pps(
+    VvcPpsRead::from(pps_read::parse_pps(
         nal,
         work,
         subpic_ids,

@@ -1,4 +1,4 @@
-use mathlib.Core.Path.{sym, ap, ◌∙◌}
+use mathlib.Core.Path.{ap}
 use Rattle.vvc_pps.specs.Answers.{byte_count}
 use Rattle.vvc_pps.proofs.vvc_sink_answer.Goals as goal
 
