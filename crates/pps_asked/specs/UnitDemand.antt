@@ -1,7 +1,7 @@
 -- Of every unit that reading accepts: all three questions answer about the record that it gives and the tables that it leaves; and if the picture is partitioned, what is demanded of
 -- tiles and slices holds of what they answer.
-use Rattle.std.specs.Prelude.{ℕ, ◌+◌, ◌≤◌, ◌≡◌, refl, List, Bool, true, false, length}
-use Rattle.std.proofs.Common.{sym, ◌∙◌, arith}
+use Rattle.std.specs.Prelude.{ℕ, ◌+◌, ◌≤◌, ◌≡◌, refl, List, Bool, true, false, length, Result, Ok, Err, Option, None}
+use Rattle.std.proofs.Common.{sym, ap, ◌∙◌, arith}
 use Rattle.std.specs.Bool.{beq}
 use borrow.Author.Tests.{ne_eqb}
 use Rattle.partition.specs.Accepted.{Accepted, without-slices, with_slices, Planned}
@@ -19,15 +19,15 @@ use Rattle.pps_answer.specs.Answers.{accepted_pps}
 use Rattle.pps_answer.specs.ParsePps.{outcome, parse_pps}
 use Rattle.pps_record.specs.declared.VvcPps.{VvcPps}
 use Rattle.pps_record.specs.declared.VvcQpOffsets.{VvcQpOffsets}
-use Rattle.pps_syntax.specs.BlockRefusal.{declined_with}
 use Rattle.pps_syntax.specs.FromRecord.{Lent, block_from, partition_from}
 use Rattle.pps_syntax.specs.Laid.{slices-coded}
 use Rattle.pps_syntax.specs.PartitionSyntax.{coded, partition_of}
 use Rattle.question_tests.specs.Questions.{record_checks, no_tiles, picture_layout, layout_asked}
 use Rattle.syntax.specs.Elements.{is_set}
-use Rattle.tile_grid.specs.declared.CoverAnswer.{CoverAnswer}
-use Rattle.tile_grid.specs.declared.CoverAnswer.TheVariants.{Refused, NoPlan}
+use Rattle.tile_grid.specs.declared.Cover.{Cover}
+use Rattle.tile_grid.specs.declared.SlicePlan.{SlicePlan}
 use Rattle.grid_sizes.specs.Answers.{grid_of_sizes}
+use Rattle.tile_grid.specs.Rects.{plan_with}
 use Rattle.tile_grid.specs.Answers.{as_tile_grid}
 use Rattle.tile_grid.specs.AskedDemand.{declined_layout, partition_asked, asked-accepted, asked-one-tile, asked_limits}
 use Rattle.tile_grid.specs.GridQuestion.{sizes_of, grid_answer_of}
@@ -38,18 +38,18 @@ use Rattle.pps_asked.specs.Asked.{unit-passes, unit-answered}
 -- ---- all three answer
 -- Neither the grid nor the plan is refused, and no cover answer that keeps its contract is a refusal.
 pub record AllAnswer (l : Layout) : Type 0 where
-  pub grid : (grid_answer_of l).refused ≡ 0
-  pub plan : (plan_answer_of l).refused ≡ 0
-  pub cover : (c : CoverAnswer) → RightAnswer l c → (n : ℕ) → c ≡ Refused n → ⊥
+  pub grid : (n : ℕ) → grid_answer_of l ≡ Err n → ⊥
+  pub plan : (n : ℕ) → plan_answer_of l ≡ Err n → ⊥
+  pub cover : (c : Result (Option Cover) ℕ) → RightAnswer l c → (n : ℕ) → c ≡ Err n → ⊥
 
-no-refusal : (n : ℕ) → NoPlan ≡ Refused n → ⊥
-no-refusal n e = let z : ◌≡◌ {A = ℕ} 0 1 = cc in omega arith
+no-refusal : {A : Type 0} (a : A) (n : ℕ) → Ok a ≡ Err n → ⊥
+no-refusal a n e = let z : ◌≡◌ {A = ℕ} 0 1 = cc in omega arith
 
 all-answer : (l : Layout) → declined_layout l ≡ false → AllAnswer l
-unfolding sizes_of as_tile_grid grid_of_sizes plan_answer_of declined_with RightAnswer RightCover cover_named
+unfolding sizes_of as_tile_grid plan_answer_of RightAnswer RightCover cover_named
 all-answer (declined n) e = absurd (let z : ◌≡◌ {A = ℕ} 0 1 = cc in omega arith)
-all-answer (unsliced g) e = record { grid = refl; plan = refl; cover = λ c h n q. no-refusal n (sym h ∙ q) }
-all-answer (sliced g ps) e = record { grid = refl; plan = refl; cover = λ c h n q. rw q at h }
+all-answer (unsliced g) e = record { grid = no-refusal _; plan = no-refusal _; cover = λ c h n q. no-refusal None n (sym h ∙ q) }
+all-answer (sliced g ps) e = record { grid = no-refusal _; plan = no-refusal _; cover = λ c h n q. rw q at h }
 
 -- the partition block is there exactly where the no-partition flag is 0
 there_where : (present unpartitioned : ℕ) → beq (is_set present) (is_set unpartitioned) ≡ false → unpartitioned ≡ 0 → present ≡ 0 → ⊥
@@ -93,11 +93,11 @@ module _ (nal work : List ℕ) (t : Lent) (pps : VvcPps) (triples : List VvcQpOf
     there : pps.partition.present ≡ 0 → ⊥
     there = there_where pps.partition.present pps.pps_no_pic_partition_flag flagged parted
 
-    said : Accepted p × (grid_answer_of l ≡ as_tile_grid (grid_of_sizes g.column_widths g.row_heights))
+    said : Accepted p × (grid_answer_of l ≡ as_tile_grid (Ok (grid_of_sizes g.column_widths g.row_heights)))
     said = asked-accepted pps tables there (unit-answered nal work t pps triples taken left tables u)
 
     -- the grid question answers with that grid, which makes up the picture
-    pub unit-grid : grid_answer_of l ≡ as_tile_grid (grid_of_sizes g.column_widths g.row_heights)
+    pub unit-grid : grid_answer_of l ≡ as_tile_grid (Ok (grid_of_sizes g.column_widths g.row_heights))
     unit-grid = said.1
 
     pub unit-picture-size : (pic_width g ≡ in_ctbs pps.pps_pic_width_in_luma_samples pps.partition.pps_log2_ctu_size_minus5)
@@ -150,9 +150,9 @@ module _ (nal work : List ℕ) (t : Lent) (pps : VvcPps) (triples : List VvcQpOf
       unfolding partition_asked partition_of
       unit-slice-count = rw same at (asked-slice-count pps tables there g planned.0 laid)
 
-      pub unit-plan-count : (plan_answer_of l).num_slices ≡ pps.partition.pps_num_slices_in_pic_minus1 + 1
-      unfolding plan_answer_of
-      unit-plan-count = unit-slice-count
+      pub unit-plan-count : (s : SlicePlan) × ((plan_answer_of l ≡ Ok s) × (s.num_slices ≡ pps.partition.pps_num_slices_in_pic_minus1 + 1))
+      unfolding plan_answer_of plan_with
+      unit-plan-count = (plan_with (plan g planned.0), (ap plan_answer_of laid, ap (λ (ss : List Slice). length ss) same ∙ unit-slice-count))
 
       pub unit-slices-inside : AllInside (pic_width g) (pic_height g) slices
       unit-slices-inside = rw same at (asked-slices-inside pps tables there g planned.0 laid)
@@ -163,5 +163,5 @@ module _ (nal work : List ℕ) (t : Lent) (pps : VvcPps) (triples : List VvcQpOf
       unit-no-block_in_two off x y hx hy = rw same at (asked-no-block_in_two pps tables there g planned.0 laid off x y hx hy)
 
       -- "the cover check says whole, gap or double exactly when that is so"
-      pub unit-cover_exactly : (c : CoverAnswer) → RightAnswer l c → Exactly g slices (cover_named c)
+      pub unit-cover_exactly : (c : Result (Option Cover) ℕ) → RightAnswer l c → Exactly g slices (cover_named c)
       unit-cover_exactly c right = rw same at (asked-cover_exactly pps tables there g planned.0 laid c right)

@@ -1,7 +1,8 @@
 // The page around the picture. The picture stands in an area of its own, 9,600 units wide.
 use crate::report::Report;
-use crate::text::{Cover, Refused};
-use tile_grid::CoverAnswer;
+use crate::text::{CoverWord, Refused};
+use refusal::Refusal;
+use tile_grid::Cover;
 
 // The page of a picture of so many units in height; both kinds of hatching.
 pub fn open(rt: &impl Print, height: u32) {
@@ -35,15 +36,16 @@ pub fn close_area(rt: &impl Print) {
 }
 
 // What the hatching says, where there is any.
-fn legend(cover: CoverAnswer) -> &'static str {
+fn legend(cover: Result<Option<Cover>, Refusal>) -> &'static str {
     match cover {
-        CoverAnswer::Refused(_) => "refused",
-        CoverAnswer::NoPlan => "dashed: tiles, numbered in the corner; no slices are coded",
-        CoverAnswer::Whole => "dashed: tiles, numbered in the corner; coloured: slices",
-        CoverAnswer::Gap(_) => {
+        Err(_) => "refused",
+        Ok(None) => "dashed: tiles, numbered in the corner; no slices are coded",
+        Ok(Some(Cover::Whole)) => "dashed: tiles, numbered in the corner; coloured: slices",
+        Ok(Some(Cover::Gap(_))) => {
             "dashed: tiles; coloured: slices; red: in no slice; blue lines: in several slices"
         }
-        CoverAnswer::Double(_) => "dashed: tiles; coloured: slices; blue lines: in several slices",
+        Ok(Some(Cover::Double(_))) =>
+            "dashed: tiles; coloured: slices; blue lines: in several slices",
     }
 }
 
@@ -59,7 +61,7 @@ pub fn heading(rt: &impl Print, report: &Report) {
     let _ = println!(rt;
         "slices {}, cover {}</text>",
         report.num_slices,
-        Cover(report.cover)
+        CoverWord(report.cover)
     );
     let _ = println!(rt;
         "<text x='200' y='860' font-size='180' fill='#555'>{}</text>",

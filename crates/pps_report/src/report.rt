@@ -8,8 +8,9 @@ use pps_read::parse_pps;
 use pps_record::lengths::{
     RECT_SLICES, SPLIT_HEIGHTS, SUBPIC_IDS, TILE_COLUMN_WIDTHS, TILE_ROW_HEIGHTS,
 };
-use pps_tables::ENTRY_LEN;
-use tile_grid::{CoverAnswer, PlanAnswer, TileGrid};
+use pps_tables::{ENTRY_LEN, LentTables, SliceTables};
+use refusal::Refusal;
+use tile_grid::{Cover, SlicePlan, SliceRect, TileGrid};
 
 // A rectangle in CTBs.
 #[derive(Clone, Copy, Default)]
@@ -33,7 +34,7 @@ pub struct Report {
     row_heights: [u32; ROWS],
     pub num_slices: u32,
     slices: [Rect; SLICES],
-    pub cover: CoverAnswer,
+    pub cover: Result<Option<Cover>, Refusal>,
 }
 
 impl Report {
@@ -55,64 +56,43 @@ fn first<T>(list: &[T], n: u32) -> &[T] {
     &list[..list.len().min(n as usize)]
 }
 
-fn slices_of(plan: &PlanAnswer) -> [Rect; SLICES] {
+impl From<SliceRect> for Rect {
+    fn from(slice: SliceRect) -> Rect {
+        Rect {
+            left: slice.left.0,
+            top: slice.top.0,
+            width: slice.width.0,
+            height: slice.height.0,
+        }
+    }
+}
+
+fn slices_of(plan: &SlicePlan) -> [Rect; SLICES] {
     let mut slices = [Rect::default(); SLICES];
     for (i, slice) in slices.iter_mut().enumerate() {
-        *slice = Rect {
-            left: plan.left[i],
-            top: plan.top[i],
-            width: plan.width[i],
-            height: plan.height[i],
-        };
+        *slice = Rect::from(plan.slices[i]);
     }
     slices
 }
 
 // The three questions of a record that was read; none refuses what reading gave (`pps_asked`).
-fn accepted_report(
-    a: AcceptedPps,
-    subpic_ids: &[u32],
-    tile_column_widths: &[u32],
-    tile_row_heights: &[u32],
-    entries: &[[u32; ENTRY_LEN]],
-    split_heights: &[u32],
-) -> Report {
+fn accepted_report(a: AcceptedPps, lent: LentTables<'_>) -> Report {
     let pps = a.pps;
-    let grid = TileGrid::of_record(
-        pps,
-        subpic_ids,
-        tile_column_widths,
-        tile_row_heights,
-        entries,
-        split_heights,
-    )
-    .grid;
-    let plan = TileGrid::slice_plan(
-        pps,
-        subpic_ids,
-        tile_column_widths,
-        tile_row_heights,
-        entries,
-        split_heights,
-    );
-    let cover = TileGrid::slice_cover(
-        pps,
-        subpic_ids,
-        tile_column_widths,
-        tile_row_heights,
-        entries,
-        split_heights,
-    );
-    let column_widths = grid.column_widths;
-    let row_heights = grid.row_heights;
+    let sizes = TileGrid::of_record(&pps, lent)
+        .unwrap_or(TileGrid::NONE)
+        .sizes;
+    let plan = TileGrid::slice_plan(&pps, lent).unwrap_or(SlicePlan::NONE);
+    let cover = TileGrid::slice_cover(&pps, lent);
+    let column_widths = sizes.column_widths;
+    let row_heights = sizes.row_heights;
     let slices = slices_of(&plan);
     Report {
         bytes_taken: a.bytes_taken,
         width: pps.pps_pic_width_in_luma_samples,
         height: pps.pps_pic_height_in_luma_samples,
         log2_ctu_size_minus5: pps.partition.pps_log2_ctu_size_minus5,
-        num_tile_columns: grid.num_tile_columns,
-        num_tile_rows: grid.num_tile_rows,
+        num_tile_columns: sizes.num_tile_columns,
+        num_tile_rows: sizes.num_tile_rows,
         column_widths,
         row_heights,
         num_slices: plan.num_slices,
@@ -143,13 +123,17 @@ pub fn report_of(nal: &[u8]) -> Result<Report, u8>
     let answer = read.answer;
     match answer {
         PpsAnswer::Refused(number) => Err(number),
-        PpsAnswer::Accepted(a) => Ok(accepted_report(
-            a,
-            &subpic_ids,
-            &tile_column_widths,
-            &tile_row_heights,
-            &entries,
-            &split_heights,
-        )),
+        PpsAnswer::Accepted(a) => {
+            let lent = LentTables {
+                subpic_ids: &subpic_ids,
+                tile_column_widths: &tile_column_widths,
+                tile_row_heights: &tile_row_heights,
+                slices: SliceTables {
+                    entries: &entries,
+                    split_heights: &split_heights,
+                },
+            };
+            Ok(accepted_report(a, lent))
+        }
     }
 }

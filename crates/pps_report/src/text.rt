@@ -1,7 +1,8 @@
 // A report, a cover and a refusal as text.
 use crate::report::Report;
+use refusal::Refusal;
 use std::fmt;
-use tile_grid::CoverAnswer;
+use tile_grid::Cover;
 
 // The number of a refusal.
 #[derive(Clone, Copy)]
@@ -16,16 +17,14 @@ impl fmt::Display for Refused {
 
 // The cover's word, and the tile that it names.
 #[derive(Clone, Copy)]
-pub struct Cover(pub CoverAnswer);
+pub struct CoverWord(pub Result<Option<Cover>, Refusal>);
 
-impl fmt::Display for Cover {
+impl fmt::Display for CoverWord {
     fn fmt<W: fmt::Write>(&self, f: &mut fmt::Formatter<W>) -> fmt::Result {
         match self.0 {
-            CoverAnswer::Refused(number) => write!(f, "{}", Refused(number)),
-            CoverAnswer::NoPlan => write!(f, "none"),
-            CoverAnswer::Whole => write!(f, "whole"),
-            CoverAnswer::Gap(t) => write!(f, "gap {}", t.0),
-            CoverAnswer::Double(t) => write!(f, "double {}", t.0),
+            Err(refusal) => write!(f, "{}", Refused(refusal.number())),
+            Ok(None) => write!(f, "none"),
+            Ok(Some(cover)) => write!(f, "{cover}"),
         }
     }
 }
@@ -36,6 +35,6 @@ impl fmt::Display for Report {
         writeln!(f, "accepted {}", self.bytes_taken)?;
         writeln!(f, "picture {} {}", self.width, self.height)?;
         writeln!(f, "tiles {} {}", self.num_tile_columns, self.num_tile_rows)?;
-        writeln!(f, "cover {}", Cover(self.cover))
+        writeln!(f, "cover {}", CoverWord(self.cover))
     }
 }

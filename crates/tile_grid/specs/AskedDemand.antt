@@ -1,5 +1,5 @@
 -- A record that the questions accept has an accepted partition, so that what is demanded of tiles and slices (`partition` Demand) holds of it.
-use Rattle.std.specs.Prelude.{ℕ, ◌≤◌, ◌⊎◌, List, Bool, true, false}
+use Rattle.std.specs.Prelude.{ℕ, ◌≤◌, ◌⊎◌, List, Bool, true, false, Ok}
 use Rattle.std.proofs.Math.Path.{◌≡◌, refl}
 use Rattle.std.proofs.Common.{sym, ap, ◌∙◌, inl, inr, arith, ne_eqb}
 use Rattle.partition.specs.Accepted.{Planned, Accepted, without-slices, with_slices, accepted-or-declined}
@@ -17,7 +17,7 @@ use Rattle.pps_syntax.specs.PartitionSyntax.{partition_of}
 use Rattle.question_tests.specs.Questions.{record_checks, picture_layout, layout_asked}
 use Rattle.grid_sizes.specs.Answers.{grid_of_sizes}
 use Rattle.tile_grid.specs.Answers.{as_tile_grid}
-use Rattle.tile_grid.specs.GridQuestion.{of_record, answer-unsliced, answer-sliced}
+use Rattle.tile_grid.specs.GridQuestion.{sizes_of, of_record}
 
 -- The partition that a record and its tables say.
 unfoldable pub partition_asked : VvcPps → Lent → Partition
@@ -56,12 +56,13 @@ module _ (r : VvcPps) (t : Lent) (there : r.partition.present ≡ 0 → ⊥) whe
   asked_is e = kept (first_bad (record_checks r t)) _ e ∙ there-block
 
   -- "every record that the questions accept": its partition is accepted, and the grid question answers with its grid
-  pub asked-accepted : declined_layout (layout_asked r t) ≡ false → Accepted p × (of_record r t ≡ as_tile_grid (grid_of_sizes (grid_of p).column_widths (grid_of p).row_heights))
+  pub asked-accepted : declined_layout (layout_asked r t) ≡ false → Accepted p × (of_record r t ≡ as_tile_grid (Ok (grid_of_sizes (grid_of p).column_widths (grid_of p).row_heights)))
+  unfolding sizes_of
   asked-accepted e = split (accepted-or-declined p)
     where
-      split : Accepted p ⊎ ((n : ℕ) × (layout asking p ≡ declined n)) → Accepted p × (of_record r t ≡ as_tile_grid (grid_of_sizes (grid_of p).column_widths (grid_of p).row_heights))
-      split (inl (without-slices q)) = (without-slices q, rw (asked_is e, q) (ap as_tile_grid (answer-unsliced (grid_of p))))
-      split (inl (with_slices ps q)) = (with_slices ps q, rw (asked_is e, q) (ap as_tile_grid (answer-sliced (grid_of p) ps)))
+      split : Accepted p ⊎ ((n : ℕ) × (layout asking p ≡ declined n)) → Accepted p × (of_record r t ≡ as_tile_grid (Ok (grid_of_sizes (grid_of p).column_widths (grid_of p).row_heights)))
+      split (inl (without-slices q)) = (without-slices q, rw (asked_is e, q))
+      split (inl (with_slices ps q)) = (with_slices ps q, rw (asked_is e, q))
       split (inr d) = absurd (let z : declined_layout (declined d.0) ≡ false = ap declined_layout (sym (asked_is e ∙ d.1)) ∙ e in let w : ◌≡◌ {A = ℕ} 0 1 = cc in omega arith)
 
   -- each of its blocks lies in exactly one tile, of at most 30 columns and 990 tiles

@@ -1,138 +1,154 @@
--- The plan and the cover question, from what is placed.
-use Rattle.std.specs.Prelude.{ℕ, suc, ◌*◌, ◌/◌, ◌%◌, ◌≤◌, List, [], ◌∷◌, map, length}
+-- The plan and the cover question, from the grid question's answer.
+use Rattle.std.specs.Prelude.{ℕ, ◌-◌, ◌*◌, ◌/◌, ◌%◌, ◌≤◌, List, [], map, length, take, Ok, Err, Some, None}
 use Rattle.std.proofs.Math.Path.{◌≡◌, refl, sym, ap}
 use Rattle.std.proofs.Common.{◌∙◌, arith}
+use Rattle.std.proofs.lemmas.List.{length-map}
 use Rattle.std.proofs.Math.Bool.{true, false}
 use Rattle.std.proofs.Math.Nat.{mul_comm}
-use Rattle.partition.specs.Cover.{Cover, RightTiles}
+use Rattle.std.proofs.Math.Seq.{take-append_seam}
+use Rattle.partition.specs.Checks.{fine, first_bad}
+use Rattle.partition.specs.Cover.{RightTiles}
 use Rattle.partition.proofs.Cover.{tiles-right}
 use Rattle.partition.specs.Entry.{asking, first_position}
-use Rattle.partition.specs.Grid.{Grid, columns, rows, tiles, max_tile_columns, max_tiles, max_slices}
-use Rattle.partition.specs.Groups.{Group, AllFit, groups_at}
-use Rattle.partition.specs.Partition.{Layout, declined, unsliced, sliced, plan_of}
+use Rattle.partition.specs.Grid.{Grid, columns, rows, max_tile_columns, max_tiles, max_slices, max_slices_minus1}
+use Rattle.partition.specs.Groups.{Group, groups_at, plan}
+use Rattle.partition.specs.Partition.{Layout, declined, unsliced, sliced}
+use Rattle.partition.specs.Sizes.{sum}
+use Rattle.partition.specs.Walk.{placed}
 use Rattle.partition.proofs.Placed.{walk-fits, walk-groups}
 use Rattle.pps_record.specs.declared.VvcPps.{VvcPps}
 use Rattle.pps_syntax.specs.BlockRefusal.{declined_with}
 use Rattle.pps_syntax.specs.FromRecord.{Lent}
 use Rattle.question_tests.specs.Questions.{layout_asked}
-use Rattle.tile_grid.specs.declared.placed.PlacedIn.{PlacedIn}
-use Rattle.tile_grid.specs.Plans.{placed_of, placed_in}
-use Rattle.tile_grid.specs.GroupsHeld.{hold_front, right-held}
-use Rattle.tile_grid.specs.TileGroups.{groups_from, Countable}
-use Rattle.tile_sizes.specs.Padded.{table_of, table-length}
-use Rattle.tile_grid.specs.declared.CoverAnswer.{CoverAnswer}
-use Rattle.tile_grid.specs.declared.CoverAnswer.TheVariants.{Refused, NoPlan}
-use Rattle.tile_grid.specs.InGrid.{Asked, stopped, absent, without, with_groups, asked-cases, few-columns, few-tiles, a-column, some-tile}
-use Rattle.tile_grid.specs.PlanQuestion.{plan_answer_of, cover_named, RightAnswer}
+use Rattle.question_tests.specs.Sliced.{walked}
+use Rattle.tile_grid.specs.declared.Cover.{Cover}
+use Rattle.tile_grid.specs.declared.placed.Placed.{Placed}
+use Rattle.tile_grid.specs.declared.TileGrid.{TileGrid}
+use Rattle.tile_grid.specs.Answers.{as_tile_grid}
+use Rattle.tile_grid.specs.GridQuestion.{sizes_of, grid_answer_of, of_record, SumsFit}
+use Rattle.tile_grid.specs.GroupsHeld.{in_front, right-held}
+use Rattle.tile_grid.specs.InGrid.{Asked, without, with_groups, asked-cases, grid, checks, proper, few-columns, few-tiles, a-column, some-tile}
+use Rattle.grid_sizes.specs.Answers.{grid_of_sizes}
+use Rattle.tile_grid.specs.Placed.{has_slices, AcceptedIn, placed_of}
+use Rattle.tile_grid.specs.PlanQuestion.{plan_answer_of, named, cover_named, RightAnswer}
+use Rattle.tile_grid.specs.Rects.{tiles_of, no_tiles, plan_with}
+use Rattle.tile_grid.specs.TileGroups.{groups_in, Countable}
+use Rattle.tile_sizes.specs.Padded.{zeros, table_of}
 
--- ---- the plan is what is placed
+-- ---- a refusal
+pub plan-refused : (l : Layout) (n : ℕ) → Err n ≡ grid_answer_of l → Err n ≡ plan_answer_of l
+unfolding sizes_of as_tile_grid plan_answer_of
+plan-refused (declined m) n e = let z : n ≡ m = cc in ap Err z
+plan-refused (unsliced g) n e = absurd (let z : ◌≡◌ {A = ℕ} 0 1 = cc in omega arith)
+plan-refused (sliced g ps) n e = absurd (let z : ◌≡◌ {A = ℕ} 0 1 = cc in omega arith)
 
-pub plan_view : (l : Layout) (x : PlacedIn) → x ≡ placed_in l
-    → record { refused = x.refused; num_slices = x.placed.num_slices; left = x.placed.left; top = x.placed.top; width = x.placed.width; height = x.placed.height } ≡ plan_answer_of l
-unfolding placed_in placed_of plan_answer_of plan_of declined_with
-plan_view (declined n) x e = rw e
-plan_view (unsliced g) x e = rw e
-plan_view (sliced g ps) x e = rw e
+pub cover-refused : (l : Layout) (n : ℕ) → Err n ≡ grid_answer_of l → RightAnswer l (Err n)
+unfolding sizes_of as_tile_grid RightAnswer
+cover-refused (declined m) n e = let z : n ≡ m = cc in ap Err z
+cover-refused (unsliced g) n e = absurd (let z : ◌≡◌ {A = ℕ} 0 1 = cc in omega arith)
+cover-refused (sliced g ps) n e = absurd (let z : ◌≡◌ {A = ℕ} 0 1 = cc in omega arith)
 
--- ---- layouts whose cover can be counted
+-- ---- no refusal
+not-declined : (l : Layout) (a : TileGrid) → Ok a ≡ grid_answer_of l → 0 ≡ declined_with l
+unfolding sizes_of as_tile_grid declined_with
+not-declined (declined m) a e = absurd (let z : ◌≡◌ {A = ℕ} 0 1 = cc in omega arith)
+not-declined (unsliced g) a e = refl
+not-declined (sliced g ps) a e = refl
 
--- Groups in a grid within the limits.
-pub record Fitting (g : Grid) (ps : List Group) : Type 0 where
-  pub fit : AllFit g ps
-  pub some : 1 ≤ columns g
-  pub wide : columns g ≤ max_tile_columns
-  pub small : tiles g ≤ max_tiles
-  pub few : length ps ≤ max_slices
+grid-of : (g : Grid) (ps : List Group) (a : TileGrid) → Ok a ≡ grid_answer_of (sliced g ps) → a.sizes ≡ grid_of_sizes g.column_widths g.row_heights
+unfolding sizes_of as_tile_grid
+grid-of g ps a e = let z : a ≡ record { sizes = grid_of_sizes g.column_widths g.row_heights } = cc in ap (λ (x : TileGrid). x.sizes) z
 
-unfoldable pub Coverable : Layout → Type 0
-Coverable (declined n) = n ≡ 0 → ⊥
-Coverable (unsliced g) = Unit {0}
-Coverable (sliced g ps) = Fitting g ps
+module _ (r : VvcPps) (t : Lent) (a : TileGrid) (e : Ok a ≡ of_record r t) where
+  cases : Asked r t
+  cases = asked-cases r t (not-declined (layout_asked r t) a e)
 
--- Every layout that a question comes to.
-pub asked_coverable : (r : VvcPps) (t : Lent) → Coverable (layout_asked r t)
-unfolding Coverable
-asked_coverable r t = go (asked-cases r t)
-  where
-    go : Asked r t → Coverable (layout_asked r t)
-    go (stopped n z e) = rw e z
-    go (absent e) = rw e tt
-    go (without ok e) = rw e tt
-    go (with_groups ok f ps w e) =
-        rw e
-        (record {
-          fit = walk-fits _ asking _ _ _ first_position ps (λ _. some-tile r t ok) w;
-          some = a-column r t ok;
-          wide = few-columns r t ok;
-          small = few-tiles r t ok;
-          few = omega (arith, f, walk-groups _ asking _ _ _ first_position ps (omega arith) w);
-        })
+  -- ---- no slices are coded
+  module _ (off : has_slices r.partition ≡ false) where
+    -- Without slices.
+    unplanned : (g : Grid) × (layout_asked r t ≡ unsliced g)
+    unplanned = go cases
+      where
+        go : Asked r t → (g : Grid) × (layout_asked r t ≡ unsliced g)
+        go (without c g i) = (g, i)
+        go (with_groups c ok f ps w i) = absurd (let q : true ≡ false = sym c ∙ off in let y : ◌≡◌ {A = ℕ} 0 1 = cc in omega arith)
 
--- ---- the ways out of the cover question
+    pub plan-none : Ok (plan_with []) ≡ plan_answer_of (layout_asked r t)
+    unfolding plan_answer_of
+    plan-none = rw unplanned.1
 
-kinds : (l : Layout) (x : PlacedIn) → x ≡ placed_in l → x.refused ≡ declined_with l
-unfolding placed_in declined_with
-kinds (declined n) x e = rw e
-kinds (unsliced g) x e = rw e
-kinds (sliced g ps) x e = rw e
+    pub cover-none : RightAnswer (layout_asked r t) (Ok None)
+    unfolding RightAnswer
+    cover-none = rw unplanned.1 refl
 
-map-length : (f : Group → ℕ) (l : List Group) → length (map f l) ≡ length l
-map-length f [] = refl
-map-length f (q ∷ l) = ap suc (map-length f l)
+  -- ---- the slices of an accepted record
+  module _ (on : has_slices r.partition ≡ true) (fit : SumsFit a) where
+    record Planned : Type 0 where
+      ok : first_bad (checks r t) ≡ fine
+      few : r.partition.pps_num_slices_in_pic_minus1 ≤ max_slices_minus1
+      groups : List Group
+      walks : walked (grid r t) r.partition t.slices ≡ placed groups
+      is : layout_asked r t ≡ sliced (grid r t) groups
 
-module _ (x : PlacedIn) where
-  pub cover-refused : (x.refused ≡ 0 → ⊥) → (l : Layout) → Coverable l → x ≡ placed_in l → RightAnswer l (Refused x.refused)
-  unfolding RightAnswer declined_with
-  cover-refused z (declined n) c e = ap Refused (kinds (declined n) x e)
-  cover-refused z (unsliced g) c e = absurd (z (kinds (unsliced g) x e))
-  cover-refused z (sliced g ps) c e = absurd (z (kinds (sliced g ps) x e))
+    planned : Planned
+    planned = go cases
+      where
+        go : Asked r t → Planned
+        go (without c g i) = absurd (let q : true ≡ false = sym on ∙ c in let y : ◌≡◌ {A = ℕ} 0 1 = cc in omega arith)
+        go (with_groups c ok f ps w i) = record { ok = ok; few = f; groups = ps; walks = w; is = i }
 
-  planned-is : (l : Layout) → x ≡ placed_in l → x.planned ≡ (placed_in l).planned
-  planned-is l e = ap (λ (y : PlacedIn). y.planned) e
+    sizes-are : a.sizes ≡ grid_of_sizes (grid r t).column_widths (grid r t).row_heights
+    sizes-are = grid-of (grid r t) planned.groups a (e ∙ ap grid_answer_of planned.is)
 
-  pub cover_unplanned : x.refused ≡ 0 → x.planned ≡ false → (l : Layout) → Coverable l → x ≡ placed_in l → RightAnswer l NoPlan
-  unfolding RightAnswer declined_with Coverable placed_in
-  cover_unplanned z u (declined n) c e = absurd (c (sym (kinds (declined n) x e) ∙ z))
-  cover_unplanned z u (unsliced g) c e = refl
-  cover_unplanned z u (sliced g ps) c e = absurd (let q : true ≡ false = sym (planned-is (sliced g ps) e) ∙ u in let y : ◌≡◌ {A = ℕ} 0 1 = cc in omega arith)
+    sums : (sum (grid r t).column_widths ≤ 4294967295) × (sum (grid r t).row_heights ≤ 4294967295)
+    unfolding grid_of_sizes table_of
+    sums =
+        rw (
+          sizes-are,
+          take-append_seam (grid r t).column_widths (zeros (max_tile_columns - length (grid r t).column_widths)),
+          take-append_seam (grid r t).row_heights (zeros (max_tiles - length (grid r t).row_heights)),
+        ) at fit
 
-  abbrev xs : List Group → (Group → ℕ) → List ℕ
-  xs ps f = table_of max_slices (map f ps)
+    accepted : AcceptedIn a.sizes r.partition t.slices (grid r t) planned.groups
+    accepted = record { held = sizes-are; proper = proper r t planned.ok sums; few = planned.few; walks = planned.walks }
 
-  lengths : (ps : List Group) (f : Group → ℕ) → length ps ≤ max_slices → length (xs ps f) ≡ max_slices
-  lengths ps f h = table-length max_slices (map f ps) (omega (arith, h, map-length f ps))
+    pub some-accepted : (g : Grid) × ((ps : List Group) × AcceptedIn a.sizes r.partition t.slices g ps)
+    some-accepted = (grid r t, (planned.groups, accepted))
 
-  pub cover_ready : x.planned ≡ true → (l : Layout) → Coverable l → x ≡ placed_in l
-      → Countable x.num_tile_columns x.num_tile_rows x.placed.tile_x x.placed.tile_y x.placed.columns x.placed.rows x.placed.num_groups
-  unfolding Coverable placed_in placed_of
-  cover_ready u (declined m) c e = absurd (let q : false ≡ true = sym (planned-is (declined m) e) ∙ u in let y : ◌≡◌ {A = ℕ} 0 1 = cc in omega arith)
-  cover_ready u (unsliced g) c e = absurd (let q : false ≡ true = sym (planned-is (unsliced g) e) ∙ u in let y : ◌≡◌ {A = ℕ} 0 1 = cc in omega arith)
-  cover_ready u (sliced g ps) c e =
-      rw e
-      (record {
-        some = c.some;
-        wide = c.wide;
-        small = omega (arith, c.small, mul_comm (columns g) (rows g));
-        listed =
-            record {
-              few = c.few;
-              columns = omega (arith, c.few, lengths ps (λ p. p.tile_x) c.few);
-              rows = omega (arith, c.few, lengths ps (λ p. p.tile_y) c.few);
-              widths = omega (arith, c.few, lengths ps (λ p. p.width) c.few);
-              heights = omega (arith, c.few, lengths ps (λ p. p.height) c.few);
-            };
-      })
+    module _ (x : Placed) (made : (g : Grid) (ps : List Group) → AcceptedIn a.sizes r.partition t.slices g ps → x ≡ placed_of (plan g ps) ps) where
+      x-is : x ≡ placed_of (plan (grid r t) planned.groups) planned.groups
+      x-is = made (grid r t) planned.groups accepted
 
-  abbrev counted : Cover → Type 0
-  counted k =
-      RightTiles (x.num_tile_columns * x.num_tile_rows)
-      (λ t. groups_at (groups_from x.placed.tile_x x.placed.tile_y x.placed.columns x.placed.rows 0 x.placed.num_groups) (t % x.num_tile_columns) (t / x.num_tile_columns)) k
+      pub plan-some : Ok x.plan ≡ plan_answer_of (layout_asked r t)
+      unfolding plan_answer_of placed_of
+      plan-some = rw (x-is, planned.is)
 
-  pub cover-counted : x.planned ≡ true → (r : CoverAnswer) → counted (cover_named r) → (l : Layout) → Coverable l → x ≡ placed_in l → RightAnswer l r
-  unfolding RightAnswer Coverable placed_in placed_of table_of
-  cover-counted u r h (declined m) c e = absurd (let q : false ≡ true = sym (planned-is (declined m) e) ∙ u in let y : ◌≡◌ {A = ℕ} 0 1 = cc in omega arith)
-  cover-counted u r h (unsliced g) c e = absurd (let q : false ≡ true = sym (planned-is (unsliced g) e) ∙ u in let y : ◌≡◌ {A = ℕ} 0 1 = cc in omega arith)
-  cover-counted u r h (sliced g ps) c e =
-      tiles-right g ps c.fit (cover_named r)
-      (right-held (xs ps (λ p. p.tile_x)) (xs ps (λ p. p.tile_y)) (xs ps (λ p. p.width)) (xs ps (λ p. p.height)) g ps (columns g) (rows g) (length ps) refl refl refl (hold_front ps _ _ _ _) (cover_named r)
-      (rw e at h))
+      groups-few : length planned.groups ≤ max_slices
+      groups-few = omega (arith, planned.few, walk-groups _ asking _ _ _ first_position planned.groups (omega arith) planned.walks)
+
+      front : take x.num_groups x.groups ≡ map tiles_of planned.groups
+      unfolding placed_of
+      front = rw x-is (let z : length planned.groups ≡ length (map tiles_of planned.groups) = sym (length-map planned.groups tiles_of) in rw z (in_front no_tiles (map tiles_of planned.groups)))
+
+      pub groups-within : x.num_groups ≤ max_slices
+      unfolding placed_of
+      groups-within = rw x-is groups-few
+
+      pub cover-ready : Countable a.sizes.num_tile_columns a.sizes.num_tile_rows (take x.num_groups x.groups)
+      unfolding grid_of_sizes
+      cover-ready =
+          rw (sizes-are, front)
+          (record {
+            some = a-column r t planned.ok;
+            wide = few-columns r t planned.ok;
+            small = omega (arith, few-tiles r t planned.ok, mul_comm (columns (grid r t)) (rows (grid r t)));
+            few = omega (arith, groups-few, length-map planned.groups tiles_of);
+          })
+
+      pub cover-some : (c : Cover) → RightTiles (a.sizes.num_tile_columns * a.sizes.num_tile_rows) (λ k. groups_at (groups_in (take x.num_groups x.groups)) (k % a.sizes.num_tile_columns) (k / a.sizes.num_tile_columns)) (named c)
+          → RightAnswer (layout_asked r t) (Ok (Some c))
+      unfolding RightAnswer cover_named grid_of_sizes
+      cover-some c h =
+          rw planned.is
+          (tiles-right (grid r t) planned.groups (walk-fits _ asking _ _ _ first_position planned.groups (λ _. some-tile r t planned.ok) planned.walks) (named c)
+          (right-held (grid r t) planned.groups (named c) (rw (sizes-are, front) at h)))

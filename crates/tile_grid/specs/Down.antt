@@ -3,7 +3,7 @@ use Rattle.std.specs.Prelude.{◌≡◌, List, ℕ, suc, ◌+◌, ◌-◌, ◌*�
 use Rattle.std.proofs.Common.{ap, ◌∙◌, add-mul, one-mul, zero-mul, mul_comm, zero-add, mul-le-mul_right, arith}
 use Rattle.std.proofs.Math.Arith.{digits_lt, digits_div, digits_mod}
 use Rattle.partition.specs.Cover.{Cover}
-use Rattle.partition.specs.Grid.{max_tile_columns, max_tiles, max_slices}
+use Rattle.partition.specs.Grid.{max_tiles, max_slices}
 use Rattle.partition.specs.Groups.{Group, groups_at}
 use Rattle.tile_grid.specs.Edges.{top_row, past_row, marked, AllZero, edges_at, edges_above, marked-at, above-none, above-next, above_most, groups-between}
 use Rattle.tile_grid.specs.Seen.{RightSeen, with_tile, seen_tile, seen_column}
@@ -66,9 +66,6 @@ module _ (columns rows : ℕ) (ps : List Group) (x : ℕ) where
 
       tile-inside : tile < columns * rows
       tile-inside = rw (d.numbered, mul_comm columns rows) (digits_lt l wide)
-
-      pub down-tile : columns ≤ max_tile_columns → tile + columns < 4294967296
-      down-tile h = omega (arith, tile-inside)
 
       pub down-goes-on : (n : ℕ) (c' : Cover) → n ≡ count + get_or starts y 0 - get_or ends y 0 → c' ≡ with_tile c tile n → Down (y + 1) (tile + columns) n c'
       down-goes-on n c' e f =

@@ -1,5 +1,5 @@
 -- The questions by their steps: the tests before the slices' and the grid, then the slices in it.
-use Rattle.std.specs.Prelude.{ℕ, zero, suc, ◌+◌, ◌/◌, ◌≤◌, ◌<◌, ◌≡◌, Bool, length, take}
+use Rattle.std.specs.Prelude.{ℕ, zero, suc, ◌+◌, ◌-◌, ◌/◌, ◌≤◌, ◌<◌, ◌≡◌, Bool, ◌&&◌, length, take, Ok, Err}
 use Rattle.std.proofs.Math.Path.{refl, ap}
 use Rattle.std.proofs.Common.{sym, ◌∙◌, div-le_self, mul-le-mul_right, div-mul-le_self, le_trans, arith, lit<}
 use mathlib.Core.List.{List, [], ◌∷◌, ◌++◌, map}
@@ -7,7 +7,7 @@ use Rattle.std.proofs.Math.Bool.{true, false, cond}
 use Rattle.std.proofs.Math.Nat.{mul-pos}
 use Rattle.std.proofs.Math.Dec.{eqb}
 use Rattle.std.proofs.Math.Seq.{take-append_seam}
-use borrow.Author.Tests.{eqb-true, eqb-false, eq-eqb, ne_eqb}
+use borrow.Author.Tests.{eqb-false, eq-eqb, ne_eqb}
 use Rattle.partition.specs.Accepted.{GridFits}
 use Rattle.partition.proofs.Accepted.{grid-fits}
 use Rattle.partition.specs.Checks.{Check, Outcome, fine, refused_with, first_bad, number_of, passes, number-refused, Numbered, zero-fine}
@@ -16,27 +16,25 @@ use Rattle.partition.specs.Grid.{Grid, grid_with, tiles, columns, rows, max_tile
 use Rattle.partition.specs.Groups.{Group}
 use Rattle.partition.specs.Partition.{in_ctbs, tile_grid, explicit_checks, axis_checks, grid_checks, grid_of, grid_checks_of, delta_flag_checks, partition_checks, Layout, declined, unsliced, sliced, unless, layout}
 use Rattle.partition.specs.Walk.{placed}
-use Rattle.partition.specs.Sizes.{axis_sizes, Fit}
+use Rattle.partition.specs.Sizes.{sum, axis_sizes, Fit}
 use Rattle.partition.proofs.Sizes.{pos_sizes, sum-sizes}
 use Rattle.pps_record.specs.declared.VvcPps.{VvcPps}
 use Rattle.pps_record.specs.declared.VvcPpsPartition.{VvcPpsPartition}
 use Rattle.pps_syntax.specs.BlockRefusal.{declined_with, ctbs_most}
 use Rattle.pps_syntax.specs.FromRecord.{Lent, block_from, partition_from}
 use Rattle.pps_syntax.specs.Laid.{slices-coded}
-use Rattle.pps_syntax.specs.PartitionSyntax.{partition_of}
+use Rattle.pps_syntax.specs.PartitionSyntax.{coded, partition_of}
 use Rattle.pps_syntax.specs.SliceSyntax.{entry_of}
 use Rattle.pps_syntax.specs.SliceTables.{SliceTables, slices_from}
 use Rattle.question_tests.specs.Questions.{record_checks, no_tiles, picture_layout, layout_asked, slicing_checks, entries_in, sliced_in}
-use Rattle.question_tests.specs.Sliced.{Slicing, without-slices, with_slices, slicing-accepted, walked, declined-number, first-positive}
-use Rattle.tile_grid.specs.declared.placed.PlacedIn.{PlacedIn}
-use Rattle.tile_grid.specs.Plans.{Proper, placed_in}
-use Rattle.tile_grid.specs.PlanLaws.{none-unsliced}
-use Rattle.tile_grid.specs.Starts.{ProperSizes}
-use Rattle.tile_sizes.specs.Padded.{table_of}
+use Rattle.question_tests.specs.Sliced.{Slicing, without-slices, with_slices, slicing-accepted, walked, declined-number, number_of as declined-is, first-positive}
+use Rattle.syntax.specs.Elements.{is_set}
 use Rattle.grid_sizes.specs.Fronts.{grid_in}
-use Rattle.grid_sizes.specs.declared.SizesAnswer.{SizesAnswer}
-use Rattle.grid_sizes.specs.Answers.{grid_of_sizes, no_sizes, refused_sizes, sizes_for, grid_sizes}
-use Rattle.tile_grid.specs.GridQuestion.{sizes_of, answer-unsliced, answer-sliced, answer-declined, answer-number}
+use Rattle.grid_sizes.specs.declared.GridSizes.{GridSizes}
+use Rattle.tile_grid.specs.GridQuestion.{sizes_of, SumsFit}
+use Rattle.grid_sizes.specs.Answers.{grid_of_sizes, sizes_for, grid_sizes}
+use Rattle.tile_grid.specs.Placed.{Proper, has_slices}
+use Rattle.tile_sizes.specs.Padded.{zeros, table_of}
 
 -- ---- the partition in its grid
 
@@ -72,23 +70,9 @@ module _ (W H : ℕ) (p : VvcPpsPartition) (t : Lent) where
   layout_in_grid =
       rw (slices-coded W H (block_from p t), unless-both (grid_checks W H ctu ws hs) _ _, entries-count t.slices 0 0 p.num_rect_slices)
 
--- a list of checks that does not stop
-unless-fine : (cs : List Check) → Numbered cs → (l : Layout) → declined_with (unless (first_bad cs) l) ≡ 0 → first_bad cs ≡ fine
-unfolding unless declined_with
-unless-fine cs n l z = go (first_bad cs) refl z
-  where
-    go : (o : Outcome) → first_bad cs ≡ o → declined_with (unless o l) ≡ 0 → o ≡ fine
-    go fine e q = refl
-    go (refused_with m) e q = absurd (first-positive cs n m e q)
-
--- the same refusal, whatever follows
-same-refusal : (o : Outcome) (x y : Layout) (n : ℕ) → unless o x ≡ declined n → (x ≡ declined n → y ≡ declined n) → unless o y ≡ declined n
-unfolding unless
-same-refusal fine x y n e f = f e
-same-refusal (refused_with m) x y n e f = e
-
-unsliced-declined : (g : Grid) (n : ℕ) (l : Layout) → unsliced g ≡ declined n → l ≡ declined n
-unsliced-declined g n l e = absurd (let z : ◌≡◌ {A = ℕ} 0 1 = cc in omega arith)
+and-false : (a : Bool) → (a && false) ≡ false
+and-false true = refl
+and-false false = refl
 
 -- ---- the steps
 
@@ -114,12 +98,8 @@ module _ (r : VvcPps) (t : Lent) where
   abbrev pub grid : Grid
   grid = tile_grid W H size cs rs
 
-  abbrev checks : List Check
+  abbrev pub checks : List Check
   checks = grid_checks W H size cs rs
-
-  -- The tests before the slices', and the grid.
-  unfoldable pub grid_asked : Layout
-  grid_asked = unless (first_bad (record_checks r t)) (cond (eqb p.present 0) (unsliced no_tiles) (unless (first_bad checks) (unsliced grid)))
 
   numbered-record : Numbered (record_checks r t)
   unfolding record_checks Numbered
@@ -128,27 +108,6 @@ module _ (r : VvcPps) (t : Lent) where
   numbered-grid : Numbered checks
   unfolding grid_checks explicit_checks axis_checks Numbered
   numbered-grid = (lit< tt, (lit< tt, (lit< tt, (lit< tt, (lit< tt, (lit< tt, (lit< tt, (lit< tt, (lit< tt, tt)))))))))
-
-  -- as the code makes them
-  pub tests-refused : (n : ℕ) → n ≡ number_of (first_bad (record_checks r t)) → (n ≡ 0 → ⊥) → refused_sizes n ≡ sizes_of grid_asked
-  unfolding grid_asked unless sizes_of
-  tests-refused n e z = rw (number-refused (first_bad (record_checks r t)) n e z)
-
-  module _ (n : ℕ) (e : n ≡ number_of (first_bad (record_checks r t))) (z : n ≡ 0) where
-    pass : first_bad (record_checks r t) ≡ fine
-    pass = zero-fine (record_checks r t) numbered-record (sym z ∙ e)
-
-    pub tests-unpartitioned : p.present ≡ 0 → refused_sizes 0 ≡ sizes_of grid_asked
-    unfolding grid_asked unless sizes_of no_tiles refused_sizes no_sizes grid_of_sizes table_of
-    tests-unpartitioned q = rw (pass, eq-eqb p.present 0 q)
-
-    pub tests-grid : (p.present ≡ 0 → ⊥) → (a : SizesAnswer) → a ≡ grid_sizes W H size cs rs → a ≡ sizes_of grid_asked
-    unfolding grid_asked unless grid_sizes sizes_for sizes_of
-    tests-grid q a f = f ∙ rw (pass, ne_eqb p.present 0 q) (go (first_bad checks))
-      where
-        go : (o : Outcome) → sizes_for o grid ≡ sizes_of (unless o (unsliced grid))
-        go fine = refl
-        go (refused_with n) = refl
 
   -- ---- a grid that passed its checks
 
@@ -179,156 +138,120 @@ module _ (r : VvcPps) (t : Lent) where
     unfolding grid_of partition_of
     some-tile = mul-pos fits.a-row fits.a-column
 
-    -- sizes that fit an axis of 32 bits
-    axis-proper : (es : List ℕ) (samples : ℕ) → samples ≤ 4294967295 → Fit es (in_ctbs samples size) → length (axis_sizes es (in_ctbs samples size)) ≤ max_tiles
-        → ProperSizes (axis_sizes es (in_ctbs samples size))
-    axis-proper es samples l f n =
-        record {
-          few = n;
-          some = pos_sizes es (in_ctbs samples size);
-          fits = omega (arith, sum-sizes es (in_ctbs samples size) f, ctbs_most samples size);
-        }
+    axis-sum : (es : List ℕ) (samples : ℕ) → samples ≤ 4294967295 → Fit es (in_ctbs samples size) → sum (axis_sizes es (in_ctbs samples size)) ≤ 4294967295
+    axis-sum es samples l f = omega (arith, sum-sizes es (in_ctbs samples size) f, ctbs_most samples size)
 
-    proper : W ≤ 4294967295 → H ≤ 4294967295 → Proper grid
+    pub grid-sums : W ≤ 4294967295 → H ≤ 4294967295 → (sum grid.column_widths ≤ 4294967295) × (sum grid.row_heights ≤ 4294967295)
     unfolding grid_of partition_of tile_grid
-    proper w h =
+    grid-sums w h = (axis-sum cs W w fits.fit-columns, axis-sum rs H h fits.fit-rows)
+
+    pub proper : (sum grid.column_widths ≤ 4294967295) × (sum grid.row_heights ≤ 4294967295) → Proper grid
+    unfolding tile_grid
+    proper h =
         record {
           some-tile = some-tile;
-          column_sizes = axis-proper cs W w fits.fit-columns (omega (arith, few-columns));
-          row_sizes = axis-proper rs H h fits.fit-rows few-rows;
+          few-columns = few-columns;
+          column_sizes = record { few = omega (arith, few-columns); some = pos_sizes cs (in_ctbs W size); fits = h.0 };
+          row_sizes = record { few = few-rows; some = pos_sizes rs (in_ctbs H size); fits = h.1 };
         }
 
-  -- ---- what the grid's answer says of the layout
+  -- ---- test by test, as the code makes them
 
-  there-layout : (p.present ≡ 0 → ⊥) → picture_layout W H (partition_from p t) ≡ unless (first_bad checks) (sliced_in grid p t.slices)
-  unfolding partition_from picture_layout
-  there-layout q = rw (ne_eqb p.present 0 q) (layout_in_grid W H p t)
-
-  absent-layout : p.present ≡ 0 → picture_layout W H (partition_from p t) ≡ unsliced no_tiles
-  unfolding partition_from picture_layout
-  absent-layout q = rw (eq-eqb p.present 0 q)
-
-  -- ---- the ways of a question
-
-  pub data Asked : Type 0 where
-    stopped : (n : ℕ) → (n ≡ 0 → ⊥) → layout_asked r t ≡ declined n → Asked
-    absent : layout_asked r t ≡ unsliced no_tiles → Asked
-    without : first_bad checks ≡ fine → layout_asked r t ≡ unsliced grid → Asked
-    with_groups : first_bad checks ≡ fine → p.pps_num_slices_in_pic_minus1 ≤ max_slices_minus1 → (ps : List Group) → walked grid p t.slices ≡ placed ps → layout_asked r t ≡ sliced grid ps → Asked
-
-  in_the_grid : first_bad checks ≡ fine → layout_asked r t ≡ sliced_in grid p t.slices → Asked
-  in_the_grid ok e = go (eqb (declined_with (sliced_in grid p t.slices)) 0) refl
-    where
-      slices : Slicing grid p t.slices → Asked
-      slices (without-slices c i) = without ok (e ∙ i)
-      slices (with_slices c f ps w i) = with_groups ok f ps w (e ∙ i)
-
-      go : (b : Bool) → eqb (declined_with (sliced_in grid p t.slices)) 0 ≡ b → Asked
-      go true z = slices (slicing-accepted grid p t.slices (sym (eqb-true (declined_with (sliced_in grid p t.slices)) 0 z)))
-      go false z =
-          let q = eqb-false (declined_with (sliced_in grid p t.slices)) 0 z in
-          stopped (declined_with (sliced_in grid p t.slices)) q (e ∙ declined-number (sliced_in grid p t.slices) (declined_with (sliced_in grid p t.slices)) refl q)
-
-  pub asked-cases : Asked
+  -- a test before the partition's own
+  pub asked-tests : (n : ℕ) → n ≡ number_of (first_bad (record_checks r t)) → 0 < n → layout_asked r t ≡ declined n
   unfolding layout_asked unless
-  asked-cases = tests (first_bad (record_checks r t)) refl
-    where
-      checked : first_bad (record_checks r t) ≡ fine → (p.present ≡ 0 → ⊥) → (o : Outcome) → first_bad checks ≡ o → Asked
-      checked f q (refused_with n) e = stopped n (first-positive checks numbered-grid n e) (rw f (there-layout q ∙ rw e))
-      checked f q fine e = in_the_grid e (rw f (there-layout q ∙ rw e))
+  asked-tests n e h = rw (number-refused (first_bad (record_checks r t)) n e (λ z. omega arith))
 
-      presence : first_bad (record_checks r t) ≡ fine → (b : Bool) → eqb p.present 0 ≡ b → Asked
-      presence f true b = absent (rw f (absent-layout (eqb-true p.present 0 b)))
-      presence f false b = checked f (eqb-false p.present 0 b) (first_bad checks) refl
+  module _ (fit : 0 ≡ number_of (first_bad (record_checks r t))) where
+    asked-picture : layout_asked r t ≡ picture_layout W H (partition_from p t)
+    unfolding layout_asked unless
+    asked-picture = rw (zero-fine (record_checks r t) numbered-record fit)
 
-      tests : (o : Outcome) → first_bad (record_checks r t) ≡ o → Asked
-      tests (refused_with n) e = stopped n (first-positive (record_checks r t) numbered-record n e) (rw e)
-      tests fine e = presence e (eqb p.present 0) refl
+    pub asked-absent : p.present ≡ 0 → layout_asked r t ≡ unsliced no_tiles
+    unfolding partition_from picture_layout
+    asked-absent q = asked-picture ∙ rw (eq-eqb p.present 0 q)
 
-  module _ (a : SizesAnswer) (e : a ≡ sizes_of grid_asked) where
-    number : a.refused ≡ declined_with grid_asked
-    number = ap (λ (x : SizesAnswer). x.refused) e ∙ answer-number grid_asked
+    module _ (there : p.present ≡ 0 → ⊥) where
+      asked-there : layout_asked r t ≡ unless (first_bad checks) (sliced_in grid p t.slices)
+      unfolding partition_from picture_layout
+      asked-there = asked-picture ∙ rw (ne_eqb p.present 0 there) (layout_in_grid W H p t)
 
-    module _ (z : a.refused ≡ 0 → ⊥) where
-      grid-declined : grid_asked ≡ declined a.refused
-      grid-declined = declined-number grid_asked a.refused number z
-
-      pub asked-declined : layout_asked r t ≡ declined a.refused
-      unfolding grid_asked layout_asked
-      asked-declined = same-refusal (first_bad (record_checks r t)) _ _ a.refused grid-declined (λ q. go (eqb p.present 0) refl q)
+      -- one of the grid's
+      pub asked-grid : (n : ℕ) → Err n ≡ grid_sizes W H size cs rs → layout_asked r t ≡ declined n
+      unfolding unless grid_sizes sizes_for
+      asked-grid n e = asked-there ∙ go (first_bad checks) e
         where
-          go : (b : Bool) → eqb p.present 0 ≡ b → cond (eqb p.present 0) (unsliced no_tiles) (unless (first_bad checks) (unsliced grid)) ≡ declined a.refused
-              → picture_layout W H (partition_from p t) ≡ declined a.refused
-          go true b q = unsliced-declined no_tiles a.refused _ (rw b at q)
-          go false b q = there-layout (eqb-false p.present 0 b) ∙ same-refusal (first_bad checks) (unsliced grid) (sliced_in grid p t.slices) a.refused (rw b at q) (unsliced-declined grid a.refused _)
+          go : (o : Outcome) → Err n ≡ sizes_for o grid → unless o (sliced_in grid p t.slices) ≡ declined n
+          go fine q = absurd (let z : ◌≡◌ {A = ℕ} 0 1 = cc in omega arith)
+          go (refused_with m) q = let z : n ≡ m = cc in ap declined (sym z)
 
-      pub answer-refused : a ≡ sizes_of (layout_asked r t)
-      answer-refused = e ∙ ap sizes_of (grid-declined ∙ sym asked-declined)
+      module _ (s : GridSizes) (right : Ok s ≡ grid_sizes W H size cs rs) where
+        grid-right : (first_bad checks ≡ fine) × (s ≡ grid_of_sizes grid.column_widths grid.row_heights)
+        unfolding grid_sizes sizes_for
+        grid-right = go (first_bad checks) refl right
+          where
+            go : (o : Outcome) → first_bad checks ≡ o → Ok s ≡ sizes_for o grid → (first_bad checks ≡ fine) × (s ≡ grid_of_sizes grid.column_widths grid.row_heights)
+            go fine f q = (f, cc)
+            go (refused_with m) f q = absurd (let z : ◌≡◌ {A = ℕ} 0 1 = cc in omega arith)
 
-    module _ (z : a.refused ≡ 0) where
-      tests-fine : first_bad (record_checks r t) ≡ fine
-      unfolding grid_asked
-      tests-fine = unless-fine (record_checks r t) numbered-record _ (sym number ∙ z)
+        asked-in-grid : layout_asked r t ≡ sliced_in grid p t.slices
+        unfolding unless
+        asked-in-grid = asked-there ∙ rw grid-right.0
 
-      pub asked-absent : p.present ≡ 0 → layout_asked r t ≡ unsliced no_tiles
-      unfolding layout_asked unless
-      asked-absent q = rw tests-fine (absent-layout q)
-
-      grid-absent : p.present ≡ 0 → grid_asked ≡ unsliced no_tiles
-      unfolding grid_asked unless
-      grid-absent q = rw (tests-fine, eq-eqb p.present 0 q)
-
-      pub answer-absent : p.present ≡ 0 → a ≡ sizes_of (layout_asked r t)
-      answer-absent q = e ∙ ap sizes_of (grid-absent q ∙ sym (asked-absent q))
-
-      module _ (q : p.present ≡ 0 → ⊥) where
-        grid-there : grid_asked ≡ unless (first_bad checks) (unsliced grid)
-        unfolding grid_asked unless
-        grid-there = rw (tests-fine, ne_eqb p.present 0 q)
-
-        grid-fine : first_bad checks ≡ fine
-        grid-fine = unless-fine checks numbered-grid _ (sym (ap declined_with grid-there) ∙ sym number ∙ z)
-
-        pub asked-there : layout_asked r t ≡ sliced_in grid p t.slices
-        unfolding layout_asked unless
-        asked-there = rw tests-fine (there-layout q ∙ rw grid-fine)
-
-        made : a ≡ grid_of_sizes grid.column_widths grid.row_heights
-        unfolding unless sizes_of
-        made = e ∙ ap sizes_of grid-there ∙ rw grid-fine
-
-        -- the used places of the grid's tables
-        grid-back : grid_in a.sizes ≡ grid
+        grid-back : grid_in s ≡ grid
         unfolding grid_of_sizes table_of
-        grid-back = rw made (both (take-append_seam grid.column_widths _) (take-append_seam grid.row_heights _))
+        grid-back = rw grid-right.1 (both (take-append_seam grid.column_widths _) (take-append_seam grid.row_heights _))
           where
             both : {x y : List ℕ} → x ≡ grid.column_widths → y ≡ grid.row_heights → grid_with x y ≡ grid
             both i j = rw (i, j)
 
-        -- ---- the slices in it
+        -- the slices', in the grid's sizes
+        asked-number : (n : ℕ) → n ≡ declined_with (sliced_in (grid_in s) p t.slices) → n ≡ declined_with (layout_asked r t)
+        asked-number n e = e ∙ ap (λ (g : Grid). declined_with (sliced_in g p t.slices)) grid-back ∙ ap declined_with (sym asked-in-grid)
 
-        module _ (n : ℕ) (s : n ≡ declined_with (sliced_in (grid_in a.sizes) p t.slices)) where
-          slices-number : n ≡ declined_with (sliced_in grid p t.slices)
-          slices-number = s ∙ ap (λ (x : Grid). declined_with (sliced_in x p t.slices)) grid-back
+        pub asked-slices : (n : ℕ) → n ≡ declined_with (sliced_in (grid_in s) p t.slices) → 0 < n → layout_asked r t ≡ declined n
+        asked-slices n e h = declined-number (layout_asked r t) n (asked-number n e) (λ z. omega arith)
 
-          pub slices-declined : (n ≡ 0 → ⊥) → refused_sizes n ≡ sizes_of (layout_asked r t)
-          slices-declined x = sym (answer-declined n) ∙ ap sizes_of (sym (asked-there ∙ declined-number (sliced_in grid p t.slices) n slices-number x))
+        pub asked-accepted : 0 ≡ declined_with (sliced_in (grid_in s) p t.slices) → sizes_of (layout_asked r t) ≡ Ok s
+        unfolding sizes_of
+        asked-accepted e = go (slicing-accepted grid p t.slices (asked-number 0 e ∙ ap declined_with asked-in-grid))
+          where
+            go : Slicing grid p t.slices → sizes_of (layout_asked r t) ≡ Ok s
+            go (without-slices c i) = rw (asked-in-grid, i, grid-right.1)
+            go (with_slices c f ps w i) = rw (asked-in-grid, i, grid-right.1)
 
-          pub slices-accepted : n ≡ 0 → a ≡ sizes_of (layout_asked r t)
-          slices-accepted x = go (slicing-accepted grid p t.slices (sym x ∙ slices-number))
-            where
-              go : Slicing grid p t.slices → a ≡ sizes_of (layout_asked r t)
-              go (without-slices c i) = made ∙ sym (answer-unsliced grid) ∙ ap sizes_of (sym (asked-there ∙ i))
-              go (with_slices c f ps w i) = made ∙ sym (answer-sliced grid ps) ∙ ap sizes_of (sym (asked-there ∙ i))
+        pub sums-fit : W ≤ 4294967295 → H ≤ 4294967295 → SumsFit (record { sizes = s })
+        unfolding grid_of_sizes table_of
+        sums-fit w h = rw (grid-right.1, take-append_seam grid.column_widths (zeros (max_tile_columns - length grid.column_widths)), take-append_seam grid.row_heights (zeros (max_tiles - length grid.row_heights))) (grid-sums grid-right.0 w h)
 
-        pub placed_ready : W ≤ 4294967295 → H ≤ 4294967295 → Proper (grid_in a.sizes)
-        placed_ready w h = rw grid-back (proper grid-fine w h)
+  -- ---- the ways of an answer that is no refusal
 
-        pub slices-placed : (x : PlacedIn) → x ≡ placed_in (sliced_in (grid_in a.sizes) p t.slices) → x ≡ placed_in (layout_asked r t)
-        slices-placed x i = i ∙ ap (λ (y : Grid). placed_in (sliced_in y p t.slices)) grid-back ∙ ap placed_in (sym asked-there)
+  abbrev is_coded : Bool
+  is_coded = coded p.pps_rect_slice_flag p.pps_single_slice_per_subpic_flag
 
-      pub none-absent : p.present ≡ 0 → placed_in (declined 0) ≡ placed_in (layout_asked r t)
-      none-absent q = none-unsliced no_tiles ∙ ap placed_in (sym (asked-absent q))
+  pub data Asked : Type 0 where
+    without : has_slices p ≡ false → (g : Grid) → layout_asked r t ≡ unsliced g → Asked
+    with_groups : has_slices p ≡ true → first_bad checks ≡ fine → p.pps_num_slices_in_pic_minus1 ≤ max_slices_minus1 → (ps : List Group) → walked grid p t.slices ≡ placed ps → layout_asked r t ≡ sliced grid ps → Asked
 
-    pub none-declined : (a.refused ≡ 0 → ⊥) → placed_in (declined a.refused) ≡ placed_in (layout_asked r t)
-    none-declined z = ap placed_in (sym (asked-declined z))
+  pub asked-cases : 0 ≡ declined_with (layout_asked r t) → Asked
+  unfolding layout_asked unless has_slices partition_from picture_layout
+  asked-cases e = tests (first_bad (record_checks r t)) refl e
+    where
+      there : (p.present ≡ 0 → ⊥) → picture_layout W H (partition_from p t) ≡ unless (first_bad checks) (sliced_in grid p t.slices)
+      there q = rw (ne_eqb p.present 0 q) (layout_in_grid W H p t)
+
+      slices : layout_asked r t ≡ sliced_in grid p t.slices → (p.present ≡ 0 → ⊥) → first_bad checks ≡ fine → Slicing grid p t.slices → Asked
+      slices f q o (without-slices c i) = without (rw c (and-false (is_set p.present))) grid (f ∙ i)
+      slices f q o (with_slices c m ps w i) = with_groups (rw (c, ne_eqb p.present 0 q)) o m ps w (f ∙ i)
+
+      checked : first_bad (record_checks r t) ≡ fine → (p.present ≡ 0 → ⊥) → (o : Outcome) → first_bad checks ≡ o → 0 ≡ declined_with (unless o (sliced_in grid p t.slices)) → Asked
+      checked f q fine o z = slices (rw f (there q ∙ rw o)) q o (slicing-accepted grid p t.slices z)
+      checked f q (refused_with n) o z = absurd (first-positive checks numbered-grid n o (sym (z ∙ declined-is n)))
+
+      presence : first_bad (record_checks r t) ≡ fine → (b : Bool) → eqb p.present 0 ≡ b → 0 ≡ declined_with (picture_layout W H (partition_from p t)) → Asked
+      presence f true b z = without (rw b) no_tiles (rw (f, b))
+      presence f false b z = let q = eqb-false p.present 0 b in checked f q (first_bad checks) refl (z ∙ ap declined_with (there q))
+
+      tests : (o : Outcome) → first_bad (record_checks r t) ≡ o → 0 ≡ declined_with (unless o (picture_layout W H (partition_from p t))) → Asked
+      tests fine f z = presence f (eqb p.present 0) refl z
+      tests (refused_with n) f z = absurd (first-positive (record_checks r t) numbered-record n f (sym (z ∙ declined-is n)))

@@ -7,11 +7,11 @@ pub mod GridQuestion
 pub mod GroupsHeld
 pub mod InGrid
 pub mod Marking
+pub mod Placed
 pub mod Placing
 pub mod PlanDemand
-pub mod PlanLaws
 pub mod PlanQuestion
-pub mod Plans
+pub mod Rects
 pub mod Seen
 pub mod Stacking
 pub mod Starts

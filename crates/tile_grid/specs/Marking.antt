@@ -1,13 +1,14 @@
 -- What holds at each turn of the loop that marks the edges of the groups: what is left to mark, over the tables as they are, makes the whole.
-use Rattle.std.specs.Prelude.{◌≡◌, refl, Bool, true, false, List, [], ◌∷◌, ℕ, ◌+◌, ◌-◌, ◌≤◌, ◌<◌, eqb, ltb, length, get_or, set}
+use Rattle.std.specs.Prelude.{◌≡◌, refl, Bool, true, false, List, [], ◌∷◌, ℕ, ◌+◌, ◌≤◌, ◌<◌, eqb, ltb, length, get_or, set, drop}
 use Rattle.std.proofs.Common.{sym, ◌∙◌, add-zero, arith, get_or-set_same, get_or-set_other, ltb-true, ltb-false, eqb-true}
-use Rattle.std.proofs.Math.Nat.{sub-zero}
 use Rattle.std.proofs.Math.Seq.{set_out}
+use Rattle.std.proofs.lemmas.List.{drop_more, drop_all}
 use Rattle.std.proofs.lemmas.Bool.{eqb-false}
-use Rattle.partition.specs.Grid.{max_slices}
 use Rattle.partition.specs.Groups.{Group}
 use Rattle.partition.specs.Sums.{among}
-use Rattle.tile_grid.specs.TileGroups.{group_of, groups_from, groups_none, groups-more}
+use Rattle.tile_grid.specs.declared.placed.TileGroup.{TileGroup}
+use Rattle.tile_grid.specs.Rects.{no_tiles}
+use Rattle.tile_grid.specs.TileGroups.{group_of, groups_in}
 use Rattle.tile_grid.specs.Edges.{top_row, past_row, add_at, marked, AllZero, among_one, added_length}
 
 -- ---- one table
@@ -42,38 +43,38 @@ module _ (edge : Group → ℕ) (x : ℕ) where
         same = added_length t (edge p) (among p.tile_x p.width x) ∙ m.same;
       }
 
-  pub marking_fits : (all rest : List Group) (t₀ t : List ℕ) (k row n : ℕ) → Marking edge x all rest t₀ t k → k ≤ max_slices → n ≤ 1 → get_or t row 0 + n < 4294967296
-  marking_fits all rest t₀ t k row n m h l = omega (arith, m.most row)
-
   marking_ends : (all : List Group) (t₀ t : List ℕ) (k : ℕ) → Marking edge x all [] t₀ t k → t ≡ marked edge x all t₀
   unfolding marked
   marking_ends all t₀ t k m = m.left
 
--- ---- both tables, over the groups of four tables
+-- ---- both tables
 
-module _ (xs ys ws hs : List ℕ) (groups x : ℕ) where
+module _ (gs : List TileGroup) (x : ℕ) where
   pub record Counting (starts₀ ends₀ starts ends : List ℕ) (k : ℕ) : Type 0 where
-    pub tops : Marking top_row x (groups_from xs ys ws hs 0 groups) (groups_from xs ys ws hs k (groups - k)) starts₀ starts k
-    pub pasts : Marking past_row x (groups_from xs ys ws hs 0 groups) (groups_from xs ys ws hs k (groups - k)) ends₀ ends k
-    pub inside : k ≤ groups
+    pub tops : Marking top_row x (groups_in gs) (groups_in (drop k gs)) starts₀ starts k
+    pub pasts : Marking past_row x (groups_in gs) (groups_in (drop k gs)) ends₀ ends k
+    pub inside : k ≤ length gs
 
   pub counting-begins : (starts ends : List ℕ) → AllZero starts → AllZero ends → Counting starts ends starts ends 0
   counting-begins starts ends a b =
-      record { tops = rw (sub-zero groups) (marking_begins top_row x _ starts a); pasts = rw (sub-zero groups) (marking_begins past_row x _ ends b); inside = omega arith }
+      record { tops = marking_begins top_row x _ starts a; pasts = marking_begins past_row x _ ends b; inside = omega arith }
 
   module _ (starts₀ ends₀ starts ends : List ℕ) (k : ℕ) (c : Counting starts₀ ends₀ starts ends k) where
-    pub counting-goes-on : (n : ℕ) (starts' ends' : List ℕ) → k < groups → n ≡ among (get_or xs k 0) (get_or ws k 0) x → starts' ≡ add_at starts (get_or ys k 0 + 0) n
-        → ends' ≡ add_at ends (get_or ys k 0 + get_or hs k 0) n → Counting starts₀ ends₀ starts' ends' (k + 1)
+    abbrev g : TileGroup
+    g = get_or gs k no_tiles
+
+    pub counting-goes-on : (n : ℕ) (starts' ends' : List ℕ) → k < length gs → n ≡ among g.x g.columns x → starts' ≡ add_at starts (g.y + 0) n
+        → ends' ≡ add_at ends (g.y + g.rows) n → Counting starts₀ ends₀ starts' ends' (k + 1)
     unfolding group_of top_row past_row
-    counting-goes-on n starts' ends' l e f g =
+    counting-goes-on n starts' ends' l e f h =
         record {
-          tops = rw (f, e, add-zero) (marking_goes-on top_row x _ _ (group_of xs ys ws hs k) starts₀ starts k (rw (groups-more xs ys ws hs k groups l) at c.tops));
-          pasts = rw (g, e) (marking_goes-on past_row x _ _ (group_of xs ys ws hs k) ends₀ ends k (rw (groups-more xs ys ws hs k groups l) at c.pasts));
+          tops = rw (f, e, add-zero) (marking_goes-on top_row x _ _ (group_of g) starts₀ starts k (rw (drop_more gs k no_tiles l) at c.tops));
+          pasts = rw (h, e) (marking_goes-on past_row x _ _ (group_of g) ends₀ ends k (rw (drop_more gs k no_tiles l) at c.pasts));
           inside = omega arith;
         }
 
-    pub counting-ends : groups ≤ k → (starts ≡ marked top_row x (groups_from xs ys ws hs 0 groups) starts₀) × (ends ≡ marked past_row x (groups_from xs ys ws hs 0 groups) ends₀)
+    pub counting-ends : length gs ≤ k → (starts ≡ marked top_row x (groups_in gs) starts₀) × (ends ≡ marked past_row x (groups_in gs) ends₀)
     counting-ends l = (
-      marking_ends top_row x _ starts₀ starts k (rw (groups_none xs ys ws hs k groups l) at c.tops),
-      marking_ends past_row x _ ends₀ ends k (rw (groups_none xs ys ws hs k groups l) at c.pasts),
+      marking_ends top_row x _ starts₀ starts k (rw (drop_all k gs l) at c.tops),
+      marking_ends past_row x _ ends₀ ends k (rw (drop_all k gs l) at c.pasts),
     )

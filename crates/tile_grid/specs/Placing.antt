@@ -2,18 +2,19 @@
 use Prim.Native.Nat.{ℕ, suc, ◌+◌, ◌-◌, ◌*◌, ◌≤◌, ◌<◌, min}
 use Rattle.std.specs.Prelude.{◌≡◌, Bool, not, get_or, set, take, drop, replicate}
 use Rattle.std.proofs.Math.Path.{refl, sym, ap}
-use Rattle.std.proofs.Common.{subst, ◌∙◌, length-append}
+use Rattle.std.proofs.Common.{subst, ◌∙◌, length-append, length-drop}
 use mathlib.Core.List.{List, [], ◌∷◌, ◌++◌, map, append-nil}
 use Rattle.std.proofs.Math.Bool.{true, false, cond}
 use Rattle.std.specs.Bool.{beq}
 use native.Mathlib.Omega.{arith}
-use Rattle.std.proofs.lemmas.List.Edits.{sets}
-use Rattle.std.proofs.Math.ListN.{length}
+use Rattle.std.proofs.lemmas.List.{drop-replicate, length-take}
+use Rattle.std.proofs.lemmas.List.Edits.{sets-eq}
+use Rattle.std.proofs.Math.ListN.{length, length-replicate}
 use borrow.Author.Tests.{ltb-false}
 use Rattle.partition.specs.Axis.{boundary, boundary_le, span}
 use Rattle.partition.proofs.Axis.{boundary-suc, boundary_mono}
 use Rattle.partition.specs.Entry.{Entry, Position, asking, first_position, tile_x, tile_y, split_coded, split_heights, last_slice_of, next_tile, next_position}
-use Rattle.partition.specs.Grid.{Grid, grid_with, tiles, max_slices_minus1, max_slices}
+use Rattle.partition.specs.Grid.{Grid, grid_with, tiles, max_tile_columns, max_tiles, max_slices_minus1, max_slices}
 use Rattle.partition.specs.Groups.{Group, stacked, group_slices, plan, stacked-length}
 use Rattle.partition.specs.Placed.{Step, step, End, to-bottom-right, used_by-split, end, Passed, tile_x-lt, tile_y-lt, split_flat, placed_same}
 use Rattle.partition.proofs.Placed.{entry-passed, row-span, entry-slices, some_piece, walk-slices}
@@ -21,24 +22,29 @@ use Rattle.partition.specs.Sizes.{sum, explicit_sizes, Fit}
 use Rattle.partition.specs.Slices.{Slice}
 use Rattle.partition.specs.Walk.{row_height_of, slice_heights_of, entry_group, last_group, placed, onward, walk}
 use Rattle.pps_syntax.specs.SliceTables.{SliceTables, split_count}
-use Rattle.pps_lent.specs.Tables.{split_tables}
 use Rattle.pps_tables.specs.declared.RectSliceEntry.{RectSliceEntry}
 use Rattle.pps_tables.specs.Rows.{entry_of}
 use Rattle.question_tests.specs.Questions.{entries_in}
 use Rattle.question_tests.specs.Refusing.{no-entries}
 use Rattle.question_tests.specs.Steps.{moved_to}
 use Rattle.question_tests.specs.Tables.{entry_at, entry_with}
-use Rattle.question_tests.specs.Walking.{entries_from, first_entry, place-behind, StandsAt, stands-first, stands_here, stands_after, tile-after}
+use Rattle.question_tests.specs.Walking.{entries_from, first_entry, StandsAt, stands-first, stands_here, stands_after, tile-after}
 use Rattle.slice_loop.specs.Loop.{position}
 use Rattle.syntax.specs.Elements.{is_set}
-use Rattle.tile_sizes.specs.Padded.{zeros, table_of, filled-places}
-use Rattle.tile_grid.specs.Plans.{placed_of}
-use Rattle.tile_grid.specs.Stacking.{PlanTables, plan_tables, put_plan, put_one, put-none, put_both, kept-lengths, tables_are}
-use Rattle.tile_grid.specs.Starts.{StartsAt}
-
--- A group as a block of tiles.
-abbrev pub rect : Group → Slice
-rect p = record { left = p.tile_x; top = p.tile_y; width = p.width; height = p.height }
+use Rattle.grid_sizes.specs.Answers.{grid_of_sizes}
+use Rattle.tile_grid.specs.Placed.{AcceptedIn, placed_of}
+use Rattle.tile_sizes.specs.Padded.{table_of}
+use Rattle.std.proofs.Math.Seq.{take-append_seam}
+use Rattle.grid_sizes.specs.Fronts.{take-most}
+use Rattle.grid_sizes.specs.declared.GridSizes.{GridSizes}
+use Rattle.pps_record.specs.declared.VvcPpsPartition.{VvcPpsPartition}
+use Rattle.question_tests.specs.Sliced.{walked}
+use Rattle.tile_grid.specs.declared.SliceRect.{SliceRect}
+use Rattle.tile_grid.specs.declared.placed.Placed.{Placed}
+use Rattle.tile_grid.specs.declared.placed.TileGroup.{TileGroup}
+use Rattle.tile_grid.specs.Rects.{rect_of, tiles_of, no_rect, no_tiles, table_with, plan_with}
+use Rattle.tile_grid.specs.Stacking.{put, put_plan, put_groups, put_one, put-none, put_both, kept-length}
+use Rattle.tile_grid.specs.Starts.{ProperSizes, StartsAt}
 
 -- ---- a group, from where columns and rows begin
 
@@ -64,10 +70,11 @@ module _ {ws hs cs rs : List ℕ} (C : StartsAt ws cs) (R : StartsAt hs rs) (x y
         ap (boundary hs) e,
       )
 
-  pub group_fits : 1 ≤ h → Fit es (span hs y h) → slice + length (split_heights es (span hs y h)) ≤ max_slices
+  pub group_fits : 1 ≤ h → Fit es (span hs y h) → slice + length (split_heights es (span hs y h)) ≤ max_slices → (P : List SliceRect) → length P ≡ max_slices
       → (x + w < length cs) × (y + h < length rs) × (get_or cs x 0 ≤ get_or cs (x + w) 0) × (get_or rs y 0 < get_or rs (y + h) 0) × Fit es (get_or rs (y + h) 0 - get_or rs y 0)
       × (slice + length (split_heights es (get_or rs (y + h) 0 - get_or rs y 0)) ≤ max_slices) × (x + w ≤ 4294967295) × (y + h ≤ 4294967295) × (get_or rs (y + h) 0 ≤ 4294967295)
-  group_fits s f l = (
+      × (length P ≡ max_slices)
+  group_fits s f l P n = (
     omega (arith, C.long, C.few),
     omega (arith, R.long, R.few),
     omega (arith, C.each x (omega arith), C.each (x + w) wide, boundary_mono ws x w),
@@ -77,6 +84,7 @@ module _ {ws hs cs rs : List ℕ} (C : StartsAt ws cs) (R : StartsAt hs rs) (x y
     omega (arith, C.few),
     omega (arith, R.few),
     omega (arith, R.each (y + h) tall, boundary_le hs (y + h), R.fits),
+    n,
   )
 
   pub group_stacked : stacked (get_or cs x 0) (get_or cs (x + w) 0 - get_or cs x 0) (get_or rs y 0) (split_heights es (get_or rs (y + h) 0 - get_or rs y 0))
@@ -88,12 +96,12 @@ module _ {ws hs cs rs : List ℕ} (C : StartsAt ws cs) (R : StartsAt hs rs) (x y
 
 -- ---- the loop
 
-module _ (ws hs : List ℕ) (d : Bool) (N : ℕ) (t : SliceTables) (n : ℕ) (P₀ G₀ : PlanTables) where
+module _ (ws hs : List ℕ) (d : Bool) (N : ℕ) (t : SliceTables) (n : ℕ) (P₀ : List SliceRect) (G₀ : List TileGroup) where
   abbrev grid : Grid
   grid = grid_with ws hs
 
   -- `all` are the groups, `rest` those that are still to be placed.
-  pub record Placing (P G : PlanTables) (slice tile i from : ℕ) : Type 0 where
+  pub record Placing (P : List SliceRect) (G : List TileGroup) (slice tile i from : ℕ) : Type 0 where
     pub all : List Group
     pub whole : walk asking grid d N first_position (entries_in t n) ≡ placed all
     pub at : Position
@@ -104,7 +112,7 @@ module _ (ws hs : List ℕ) (d : Bool) (N : ℕ) (t : SliceTables) (n : ℕ) (P�
     pub walks : walk asking grid d N at (entries_from t i place (n - i)) ≡ placed rest
     pub on_tile : slice ≤ N → tile < tiles grid
     pub plans : put_plan P₀ 0 (plan grid all) ≡ put_plan P slice (plan grid rest)
-    pub groups : put_plan G₀ 0 (map rect all) ≡ put_plan G i (map rect rest)
+    pub groups : put_groups G₀ 0 all ≡ put_groups G i rest
     pub ahead : i ≤ slice
     pub counted : slice + length (plan grid rest) ≡ suc N
     pub left : i + length rest ≡ length all
@@ -130,17 +138,17 @@ module _ (ws hs : List ℕ) (d : Bool) (N : ℕ) (t : SliceTables) (n : ℕ) (P�
       }
 
 -- All is placed.
-module _ (ws hs : List ℕ) (d : Bool) (N : ℕ) (t : SliceTables) (n : ℕ) (P₀ G₀ : PlanTables) where
-  pub record Done (P G : PlanTables) (slice groups : ℕ) : Type 0 where
+module _ (ws hs : List ℕ) (d : Bool) (N : ℕ) (t : SliceTables) (n : ℕ) (P₀ : List SliceRect) (G₀ : List TileGroup) where
+  pub record Done (P : List SliceRect) (G : List TileGroup) (slice groups : ℕ) : Type 0 where
     pub all : List Group
     pub whole : walk asking (grid_with ws hs) d N first_position (entries_in t n) ≡ placed all
     pub plans : P ≡ put_plan P₀ 0 (plan (grid_with ws hs) all)
-    pub tiled : G ≡ put_plan G₀ 0 (map rect all)
+    pub tiled : G ≡ put_groups G₀ 0 all
     pub slices : slice ≡ suc N
     pub count : groups ≡ length all
     pub few : groups ≤ suc N
 
-module _ {ws hs : List ℕ} {d : Bool} {N : ℕ} {t : SliceTables} {n : ℕ} {P₀ G₀ P G : PlanTables} {slice tile i from : ℕ} (H : Placing ws hs d N t n P₀ G₀ P G slice tile i from) where
+module _ {ws hs : List ℕ} {d : Bool} {N : ℕ} {t : SliceTables} {n : ℕ} {P₀ : List SliceRect} {G₀ : List TileGroup} {P : List SliceRect} {G : List TileGroup} {slice tile i from : ℕ} (H : Placing ws hs d N t n P₀ G₀ P G slice tile i from) where
   abbrev g : Grid
   g = grid_with ws hs
 
@@ -151,22 +159,12 @@ module _ {ws hs : List ℕ} {d : Bool} {N : ℕ} {t : SliceTables} {n : ℕ} {P�
   from-within = omega (arith, H.stands.place_is)
 
   -- the tables are as long as they were
-  pub plan-lengths : (length P.lefts ≡ length P₀.lefts) × (length P.tops ≡ length P₀.tops) × (length P.widths ≡ length P₀.widths) × (length P.heights ≡ length P₀.heights)
-  plan-lengths = kept-lengths P₀ P 0 slice (plan g H.all) (plan g H.rest) H.plans
+  pub plan_length : length P ≡ length P₀
+  plan_length = kept-length rect_of P₀ P 0 slice (plan g H.all) (plan g H.rest) H.plans
 
-  pub group_lengths : (length G.lefts ≡ length G₀.lefts) × (length G.tops ≡ length G₀.tops) × (length G.widths ≡ length G₀.widths) × (length G.heights ≡ length G₀.heights)
-  group_lengths = kept-lengths G₀ G 0 i (map rect H.all) (map rect H.rest) H.groups
-
-  pub part_none : take (from - from) (drop from t.split_heights) ≡ []
-  part_none = let z : from - from ≡ 0 = omega arith in rw z
-
-  pub part_starts : (c to : ℕ) → to ≡ min (length t.split_heights) (from + c) → from ≤ to
-  part_starts c to e = omega (arith, H.stands.place_is)
-
-  module _ (more : i < n) (e : RectSliceEntry) (splits to : ℕ) (e-is : e ≡ entry_at t i) (splits-is : splits ≡ split_count (split_tables t.entries) i)
-      (to_is : to ≡ min (length t.split_heights) (from + splits)) where
-    abbrev es : List ℕ
-    es = take (to - from) (drop from t.split_heights)
+  module _ (more : i < n) (e : RectSliceEntry) (es : List ℕ) (e-is : e ≡ entry_at t i) (es-is : es ≡ take (split_count t i) (drop from t.split_heights)) where
+    abbrev to : ℕ
+    to = from + length es
 
     abbrev entry : Entry
     entry = entry_with e es
@@ -174,17 +172,32 @@ module _ {ws hs : List ℕ} {d : Bool} {N : ℕ} {t : SliceTables} {n : ℕ} {P�
     abbrev later : List Entry
     later = entries_from t (i + 1) (H.place + split_count t i) (n - (i + 1))
 
+    es-count : length es ≡ min (split_count t i) (length (drop from t.split_heights))
+    es-count = ap length es-is ∙ length-take (split_count t i) (drop from t.split_heights)
+
     to-place : to ≡ min (length t.split_heights) (from + split_count t i)
-    to-place = place-behind t i from to splits splits-is to_is
+    to-place = omega (arith, es-count, length-drop from t.split_heights, from-within)
+
+    pub placing_to : to ≤ length t.split_heights
+    placing_to = omega (arith, to-place)
+
+    heights-taken : take (to - from) (drop from t.split_heights) ≡ es
+    heights-taken =
+        let c : to - from ≡ length es = omega arith in
+        rw (c, es-count) (take-most (split_count t i) (drop from t.split_heights) ∙ sym es-is)
 
     next : entries_from t i H.place (n - i) ≡ entry ∷ later
-    next = first_entry t i H.place n from to more H.stands.place_is to-place ∙ rw e-is
+    next = first_entry t i H.place n from to more H.stands.place_is to-place ∙ rw (e-is, heights-taken)
 
     turn : Step asking g d N H.at entry later H.rest
     turn = step asking g d N H.at entry later H.rest (sym (ap (walk asking g d N H.at) next) ∙ H.walks)
 
     lower : slice < N
     lower = omega (arith, H.stands.slice_is, turn.slices-left)
+
+    -- a place is left for the group
+    pub placing_room : i < N
+    placing_room = omega (arith, H.ahead, lower)
 
     at-is : position slice tile here ≡ H.at
     at-is = stands_here H.stands (omega (arith, lower))
@@ -202,15 +215,9 @@ module _ {ws hs : List ℕ} {d : Bool} {N : ℕ} {t : SliceTables} {n : ℕ} {P�
     placing_tall = omega (arith, passed.tall, tile_y-lt g tile on-tile)
 
     -- without a split there are no heights
-    count_none : is_set e.split_present ≡ false → splits ≡ 0
-    unfolding entry_of split_count
-    count_none z = let q : is_set (entry_at t i).split_present ≡ false = ap (λ (x : RectSliceEntry). is_set x.split_present) (sym e-is) ∙ z in splits-is ∙ rw q
-
     heights-none : is_set e.split_present ≡ false → es ≡ []
-    heights-none z =
-        let c = count_none z in
-        let k : to - from ≡ 0 = omega (arith, to_is) in
-        rw k
+    unfolding entry_of split_count
+    heights-none z = let q : is_set (entry_at t i).split_present ≡ false = ap (λ (x : RectSliceEntry). is_set x.split_present) (sym e-is) ∙ z in es-is ∙ rw q
 
     absent : (b : Bool) → not (beq b false) ≡ false → b ≡ false
     absent true e = absurd (let z : ◌≡◌ {A = ℕ} 0 1 = cc in omega arith)
@@ -271,17 +278,16 @@ module _ {ws hs : List ℕ} {d : Bool} {N : ℕ} {t : SliceTables} {n : ℕ} {P�
     Fits cs rs x y =
         (x + (e.width + 1) < length cs) × (y + (e.height + 1) < length rs) × (get_or cs x 0 ≤ get_or cs (x + (e.width + 1)) 0) × (get_or rs y 0 < get_or rs (y + (e.height + 1)) 0)
         × Fit es (get_or rs (y + (e.height + 1)) 0 - get_or rs y 0) × (slice + length (split_heights es (get_or rs (y + (e.height + 1)) 0 - get_or rs y 0)) ≤ max_slices) × (x + (e.width + 1) ≤ 4294967295)
-        × (y + (e.height + 1) ≤ 4294967295) × (get_or rs (y + (e.height + 1)) 0 ≤ 4294967295)
+        × (y + (e.height + 1) ≤ 4294967295) × (get_or rs (y + (e.height + 1)) 0 ≤ 4294967295) × (length P ≡ max_slices)
 
     module _ {cs rs : List ℕ} (C : StartsAt ws cs) (R : StartsAt hs rs) (x y : ℕ) (x-is : x ≡ tile_x (length ws) tile) (y-is : y ≡ tile_y (length ws) tile) where
-      pub placing_fits : N ≤ max_slices_minus1 → Fits cs rs x y
-      placing_fits few =
+      pub placing_fits : N ≤ max_slices_minus1 → length P₀ ≡ max_slices → Fits cs rs x y
+      placing_fits few long =
           rw (x-is, y-is)
-          (group_fits C R (tile_x (length ws) tile) (tile_y (length ws) tile) (e.width + 1) (e.height + 1) slice es placing_wide placing_tall (omega arith) heights-fit (omega (arith, counted-on)))
+          (group_fits C R (tile_x (length ws) tile) (tile_y (length ws) tile) (e.width + 1) (e.height + 1) slice es placing_wide placing_tall (omega arith) heights-fit (omega (arith, counted-on)) P (plan_length ∙ long))
 
-      module _ (slice' : ℕ) (slice_is : slice' ≡ slice + length (split_heights es (get_or rs (y + (e.height + 1)) 0 - get_or rs y 0))) (P' G' : PlanTables)
+      module _ (slice' : ℕ) (slice_is : slice' ≡ slice + length (split_heights es (get_or rs (y + (e.height + 1)) 0 - get_or rs y 0))) (P' : List SliceRect)
           (P-is : P' ≡ put_plan P slice (stacked (get_or cs x 0) (get_or cs (x + (e.width + 1)) 0 - get_or cs x 0) (get_or rs y 0) (split_heights es (get_or rs (y + (e.height + 1)) 0 - get_or rs y 0))))
-          (g₁ : G'.lefts ≡ set G.lefts i x) (g₂ : G'.tops ≡ set G.tops i y) (g₃ : G'.widths ≡ set G.widths i (e.width + 1)) (g₄ : G'.heights ≡ set G.heights i (e.height + 1))
           (tile' : ℕ) (tile-is : tile' ≡ (moved_to (length ws) (length hs * length ws) d tile e).0) (small : length hs * length ws ≤ 4294967295) where
         count-is : slice' ≡ slice + length (split_heights es down-span)
         count-is = slice_is ∙ rw y-is (ap (λ (k : ℕ). slice + k) (group_count C R (tile_x (length ws) tile) (tile_y (length ws) tile) (e.width + 1) (e.height + 1) slice es placing_wide placing_tall))
@@ -303,27 +309,29 @@ module _ {ws hs : List ℕ} {d : Bool} {N : ℕ} {t : SliceTables} {n : ℕ} {P�
         unfolding next_position
         tile-next l = moved l
 
-        rect-is : rect (entry_group g H.at.tile entry) ≡ record { left = x; top = y; width = e.width + 1; height = e.height + 1 }
+        abbrev group : TileGroup
+        group = record { x = x; y = y; columns = e.width + 1; rows = e.height + 1 }
+
+        tiles-are : tiles_of (entry_group g H.at.tile entry) ≡ group
         unfolding entry_group
-        rect-is =
+        tiles-are =
             let k : H.at.tile ≡ tile = sym (ap (λ (q : Position). q.tile) at-is) in
             let f : suc e.width ≡ e.width + 1 = omega arith in
             let h : suc e.height ≡ e.height + 1 = omega arith in
             rw (k, f, h, x-is, y-is)
 
-        groups-is : put_plan G i (map rect H.rest) ≡ put_plan G' (i + 1) (map rect turn.others)
+        groups-is : put_groups G i H.rest ≡ put_groups (set G i group) (i + 1) turn.others
         groups-is =
-            ap (λ (l : List Group). put_plan G i (map rect l)) turn.is
-            ∙ ap (λ (s : Slice). put_plan G i (s ∷ map rect turn.others)) rect-is
-            ∙ put_one G i (record { left = x; top = y; width = e.width + 1; height = e.height + 1 }) (map rect turn.others)
-            ∙ ap (λ (u : PlanTables). put_plan u (i + 1) (map rect turn.others)) (sym (tables_are G' _ _ _ _ g₁ g₂ g₃ g₄))
+            ap (put_groups G i) turn.is
+            ∙ put_one tiles_of G i (entry_group g H.at.tile entry) turn.others
+            ∙ ap (λ (u : TileGroup). put_groups (set G i u) (i + 1) turn.others) tiles-are
 
         plans-is : put_plan P slice (plan g H.rest) ≡ put_plan P' slice' (plan g turn.others)
         plans-is =
-            ap (put_plan P slice) rest-is ∙ put_both slices (plan g turn.others) P slice
+            ap (put_plan P slice) rest-is ∙ put_both rect_of slices (plan g turn.others) P slice
             ∙ (let k : slice + length slices ≡ slice' = omega (arith, slices-count, count-is) in rw (k, ← plan-is))
 
-        pub placing_goes-on : Placing ws hs d N t n P₀ G₀ P' G' slice' tile' (i + 1) to
+        pub placing_goes-on : Placing ws hs d N t n P₀ G₀ P' (set G i group) slice' tile' (i + 1) to
         unfolding next_position
         placing_goes-on =
             record {
@@ -346,6 +354,9 @@ module _ {ws hs : List ℕ} {d : Bool} {N : ℕ} {t : SliceTables} {n : ℕ} {P�
   -- ---- no entry is left
 
   module _ (done : n ≤ i) where
+    all-walked : i ≡ n
+    all-walked = omega (arith, H.within)
+
     ended : End g N H.at H.rest
     ended = end asking g d N H.at H.rest (sym (ap (walk asking g d N H.at) (no-entries t i H.place (n - i) (omega arith))) ∙ H.walks)
 
@@ -400,17 +411,17 @@ module _ {ws hs : List ℕ} {d : Bool} {N : ℕ} {t : SliceTables} {n : ℕ} {P�
       slice-last = omega (arith, H.counted, ap length bottom-is, bottom-count)
 
       module _ {cs rs : List ℕ} (SC : StartsAt ws cs) (SR : StartsAt hs rs) (x y w h : ℕ) (x-is : x ≡ X) (y-is : y ≡ Y) (w-is : w ≡ C - X) (h-is : h ≡ R - Y) (es : List ℕ) (es-is : es ≡ []) where
-        pub last_fits : N ≤ max_slices_minus1
+        pub last_fits : N ≤ max_slices_minus1 → length P₀ ≡ max_slices
             → (x + w < length cs) × (y + h < length rs) × (get_or cs x 0 ≤ get_or cs (x + w) 0) × (get_or rs y 0 < get_or rs (y + h) 0) × Fit es (get_or rs (y + h) 0 - get_or rs y 0)
             × (slice + length (split_heights es (get_or rs (y + h) 0 - get_or rs y 0)) ≤ max_slices) × (x + w ≤ 4294967295) × (y + h ≤ 4294967295) × (get_or rs (y + h) 0 ≤ 4294967295)
+            × (length P ≡ max_slices)
         unfolding sum explicit_sizes
-        last_fits few =
+        last_fits few long =
             rw (x-is, y-is, w-is, h-is, es-is)
-            (group_fits SC SR X Y (C - X) (R - Y) slice [] (omega (arith, left_is)) (omega (arith, down_is)) (omega (arith, tile_y-lt g tile on)) (omega arith) (omega (arith, one)))
+            (group_fits SC SR X Y (C - X) (R - Y) slice [] (omega (arith, left_is)) (omega (arith, down_is)) (omega (arith, tile_y-lt g tile on)) (omega arith) (omega (arith, one)) P (plan_length ∙ long))
 
-        module _ (slice' : ℕ) (slice_is : slice' ≡ slice + length (split_heights es (get_or rs (y + h) 0 - get_or rs y 0))) (P' G' : PlanTables)
-            (P-is : P' ≡ put_plan P slice (stacked (get_or cs x 0) (get_or cs (x + w) 0 - get_or cs x 0) (get_or rs y 0) (split_heights es (get_or rs (y + h) 0 - get_or rs y 0))))
-            (g₁ : G'.lefts ≡ set G.lefts i x) (g₂ : G'.tops ≡ set G.tops i y) (g₃ : G'.widths ≡ set G.widths i w) (g₄ : G'.heights ≡ set G.heights i h) where
+        module _ (slice' : ℕ) (slice_is : slice' ≡ slice + length (split_heights es (get_or rs (y + h) 0 - get_or rs y 0))) (P' : List SliceRect)
+            (P-is : P' ≡ put_plan P slice (stacked (get_or cs x 0) (get_or cs (x + w) 0 - get_or cs x 0) (get_or rs y 0) (split_heights es (get_or rs (y + h) 0 - get_or rs y 0)))) where
           last-count : slice' ≡ suc N
           last-count = let k : slice' ≡ slice + 1 = slice_is ∙ rw (y-is, h-is, es-is) (ap (λ (k : ℕ). slice + k) (group_count SC SR X Y (C - X) (R - Y) slice [] (omega (arith, left_is)) (omega (arith, down_is)) ∙ one)) in omega (arith, slice-last)
 
@@ -420,22 +431,25 @@ module _ {ws hs : List ℕ} {d : Bool} {N : ℕ} {t : SliceTables} {n : ℕ} {P�
               ∙ rw (x-is, y-is, w-is, h-is, es-is) (ap (put_plan P slice) (group_stacked SC SR X Y (C - X) (R - Y) slice [] (omega (arith, left_is)) (omega (arith, down_is)) ∙ sym bottom-is))
               ∙ sym H.plans
 
-          last-rect : rect (last_group g tile) ≡ record { left = x; top = y; width = w; height = h }
-          unfolding last_group
-          last-rect = rw (x-is, y-is, w-is, h-is)
+          abbrev bottom_right : TileGroup
+          bottom_right = record { x = x; y = y; columns = w; rows = h }
 
-          last-groups : G' ≡ put_plan G₀ 0 (map rect H.all)
+          last-tiles : tiles_of (last_group g tile) ≡ bottom_right
+          unfolding last_group
+          last-tiles = rw (x-is, y-is, w-is, h-is)
+
+          last-groups : set G i bottom_right ≡ put_groups G₀ 0 H.all
           last-groups =
-              tables_are G' _ _ _ _ g₁ g₂ g₃ g₄
-              ∙ sym (put-none _ (i + 1))
-              ∙ sym (put_one G i (record { left = x; top = y; width = w; height = h }) [])
-              ∙ ap (λ (s : Slice). put_plan G i (s ∷ [])) (sym last-rect)
-              ∙ ap (λ (l : List Group). put_plan G i (map rect l)) (sym only)
+              ap (λ (u : TileGroup). set G i u) (sym last-tiles)
+              ∙ sym (put-none tiles_of _ (i + 1))
+              ∙ sym (put_one tiles_of G i (last_group g tile) [])
+              ∙ ap (put_groups G i) (sym only)
               ∙ sym H.groups
 
-          pub with_last : Done ws hs d N t n P₀ G₀ P' G' slice' (i + 1)
+          pub with_last : Done ws hs d N t n P₀ G₀ P' (set G n bottom_right) slice' (n + 1)
           with_last =
-              record {
+              subst (λ (k : ℕ). Done ws hs d N t n P₀ G₀ P' (set G k bottom_right) slice' (k + 1)) all-walked
+              (record {
                 all = H.all;
                 whole = H.whole;
                 plans = last-plan;
@@ -443,7 +457,7 @@ module _ {ws hs : List ℕ} {d : Bool} {N : ℕ} {t : SliceTables} {n : ℕ} {P�
                 slices = last-count;
                 count = omega (arith, H.left, ap length only);
                 few = omega (arith, H.ahead, slice-last);
-              }
+              })
 
     module _ (over : N < slice) where
       none : H.rest ≡ []
@@ -457,51 +471,43 @@ module _ {ws hs : List ℕ} {d : Bool} {N : ℕ} {t : SliceTables} {n : ℕ} {P�
       unfolding plan
       no-slices = ap (plan g) none
 
-      pub without-last : Done ws hs d N t n P₀ G₀ P G slice i
+      pub without-last : Done ws hs d N t n P₀ G₀ P G slice n
       without-last =
-          record {
+          subst (Done ws hs d N t n P₀ G₀ P G slice) all-walked
+          (record {
             all = H.all;
             whole = H.whole;
-            plans = sym (H.plans ∙ rw no-slices (put-none P slice));
-            tiled = sym (H.groups ∙ rw none (put-none G i));
+            plans = sym (H.plans ∙ rw no-slices (put-none rect_of P slice));
+            tiled = sym (H.groups ∙ rw none (put-none tiles_of G i));
             slices = omega (arith, H.counted, ap length no-slices);
             count = omega (arith, H.left, ap length none);
             few = omega (arith, H.ahead, H.counted, ap length no-slices);
-          }
+          })
 
 -- ---- the tables, from zeros
 
-maps : (f : Slice → ℕ) (ps : List Group) → map f (map rect ps) ≡ map (λ p. f (rect p)) ps
-maps f [] = refl
-maps f (p ∷ ps) = ap (λ (l : List ℕ). f (rect p) ∷ l) (maps f ps)
+abbrev pub blank_plan : List SliceRect
+blank_plan = replicate max_slices no_rect
 
-map-length : {A : Type 0} (f : A → ℕ) (l : List A) → length (map f l) ≡ length l
+abbrev pub blank_groups : List TileGroup
+blank_groups = replicate max_slices no_tiles
+
+pub blank-long : length blank_plan ≡ max_slices
+blank-long = length-replicate max_slices no_rect
+
+map-length : {A B : Type 0} (f : A → B) (l : List A) → length (map f l) ≡ length l
 map-length f [] = refl
 map-length f (x ∷ l) = ap suc (map-length f l)
 
-abbrev pub blank : PlanTables
-blank = plan_tables (replicate max_slices 0) (replicate max_slices 0) (replicate max_slices 0) (replicate max_slices 0)
+filled : {A B : Type 0} (f : A → B) (none : B) (l : List A) → length l ≤ max_slices → put f (replicate max_slices none) 0 l ≡ table_with none (map f l)
+unfolding put table_with
+filled f none l h =
+    let z : 0 + length (map f l) ≡ length (map f l) = omega arith in
+    let m = length-replicate max_slices none in
+    sets-eq (map f l) (replicate max_slices none) 0 (omega (arith, map-length f l, m)) ∙ rw (z, drop-replicate (length (map f l)) max_slices none)
 
-filled : {A : Type 0} (f : A → ℕ) (l : List A) → length l ≤ max_slices → sets (replicate max_slices 0) 0 (map f l) ≡ table_of max_slices (map f l)
-unfolding zeros
-filled f l h = filled-places max_slices (map f l) (omega (arith, map-length f l))
-
-pub tables-filled : (ss : List Slice) → length ss ≤ max_slices
-    → put_plan blank 0 ss ≡ plan_tables (table_of max_slices (map (λ s. s.left) ss)) (table_of max_slices (map (λ s. s.top) ss)) (table_of max_slices (map (λ s. s.width) ss)) (table_of max_slices (map (λ s. s.height) ss))
-unfolding put_plan
-tables-filled ss h = rw (filled (λ (s : Slice). s.left) ss h, filled (λ (s : Slice). s.top) ss h, filled (λ (s : Slice). s.width) ss h, filled (λ (s : Slice). s.height) ss h)
-
-groups-filled : (ps : List Group) → length ps ≤ max_slices
-    → put_plan blank 0 (map rect ps) ≡ plan_tables (table_of max_slices (map (λ p. p.tile_x) ps)) (table_of max_slices (map (λ p. p.tile_y) ps)) (table_of max_slices (map (λ p. p.width) ps)) (table_of max_slices (map (λ p. p.height) ps))
-groups-filled ps h =
-    tables-filled (map rect ps) (omega (arith, rects_length ps))
-    ∙ rw (maps (λ (s : Slice). s.left) ps, maps (λ (s : Slice). s.top) ps, maps (λ (s : Slice). s.width) ps, maps (λ (s : Slice). s.height) ps)
-  where
-    rects_length : (ps : List Group) → length (map rect ps) ≡ length ps
-    rects_length [] = refl
-    rects_length (p ∷ ps) = ap suc (rects_length ps)
-
-module _ {ws hs : List ℕ} {d : Bool} {N : ℕ} {t : SliceTables} {n : ℕ} {P G : PlanTables} {slice groups : ℕ} (D : Done ws hs d N t n blank blank P G slice groups) (few : N ≤ max_slices_minus1) where
+module _ {ws hs : List ℕ} {d : Bool} {N : ℕ} {t : SliceTables} {n : ℕ} {P : List SliceRect} {G : List TileGroup} {slice groups : ℕ}
+    (D : Done ws hs d N t n blank_plan blank_groups P G slice groups) (few : N ≤ max_slices_minus1) where
   module _ (ps : List Group) (q : walk asking (grid_with ws hs) d N first_position (entries_in t n) ≡ placed ps) where
     all-is : D.all ≡ ps
     all-is = placed_same D.all ps (sym D.whole ∙ q)
@@ -509,16 +515,56 @@ module _ {ws hs : List ℕ} {d : Bool} {N : ℕ} {t : SliceTables} {n : ℕ} {P 
     slices_are : length (plan (grid_with ws hs) ps) ≡ suc N
     slices_are = omega (arith, walk-slices (grid_with ws hs) asking d N _ first_position ps (omega arith) q)
 
-    plan-made : P ≡ plan_tables (table_of max_slices (map (λ s. s.left) (plan (grid_with ws hs) ps))) (table_of max_slices (map (λ s. s.top) (plan (grid_with ws hs) ps))) (table_of max_slices (map (λ s. s.width) (plan (grid_with ws hs) ps))) (table_of max_slices (map (λ s. s.height) (plan (grid_with ws hs) ps)))
-    plan-made = D.plans ∙ rw all-is (tables-filled (plan (grid_with ws hs) ps) (omega (arith, slices_are)))
+    plan-made : P ≡ table_with no_rect (map rect_of (plan (grid_with ws hs) ps))
+    plan-made = D.plans ∙ rw all-is (filled rect_of no_rect (plan (grid_with ws hs) ps) (omega (arith, slices_are)))
 
-    groups-made : G ≡ plan_tables (table_of max_slices (map (λ p. p.tile_x) ps)) (table_of max_slices (map (λ p. p.tile_y) ps)) (table_of max_slices (map (λ p. p.width) ps)) (table_of max_slices (map (λ p. p.height) ps))
-    groups-made = D.tiled ∙ rw all-is (groups-filled ps (omega (arith, D.count, D.few, ap length all-is)))
+    groups-made : G ≡ table_with no_tiles (map tiles_of ps)
+    groups-made = D.tiled ∙ rw all-is (filled tiles_of no_tiles ps (omega (arith, D.count, D.few, ap length all-is)))
 
-    pub all_placed : record { num_slices = slice; left = P.lefts; top = P.tops; width = P.widths; height = P.heights; num_groups = groups; tile_x = G.lefts; tile_y = G.tops; columns = G.widths; rows = G.heights }
-        ≡ placed_of (plan (grid_with ws hs) ps) ps
-    unfolding placed_of
+    pub all_placed : record { plan = record { num_slices = slice; slices = P }; num_groups = groups; groups = G } ≡ placed_of (plan (grid_with ws hs) ps) ps
+    unfolding placed_of plan_with
     all_placed =
         let a : slice ≡ length (plan (grid_with ws hs) ps) = omega (arith, D.slices, slices_are) in
         let b : groups ≡ length ps = D.count ∙ ap length all-is in
         rw (a, b, plan-made, groups-made)
+
+-- ---- in the fronts of the tables that hold the grid
+
+module _ {s : GridSizes} {p : VvcPpsPartition} {t : SliceTables} {g : Grid} {ps : List Group} (A : AcceptedIn s p t g ps) where
+  abbrev columns-used : List ℕ
+  columns-used = take s.num_tile_columns s.column_widths
+
+  abbrev rows-used : List ℕ
+  rows-used = take s.num_tile_rows s.row_heights
+
+  columns-are : columns-used ≡ g.column_widths
+  unfolding grid_of_sizes table_of
+  columns-are = rw A.held (take-append_seam g.column_widths _)
+
+  rows-are : rows-used ≡ g.row_heights
+  unfolding grid_of_sizes table_of
+  rows-are = rw A.held (take-append_seam g.row_heights _)
+
+  grid-is : grid_with columns-used rows-used ≡ g
+  grid-is = rw (columns-are, rows-are)
+
+  pub columns-in-use : s.num_tile_columns ≤ max_tile_columns
+  unfolding grid_of_sizes
+  columns-in-use = rw A.held A.proper.few-columns
+
+  pub rows-in-use : s.num_tile_rows ≤ max_tiles
+  unfolding grid_of_sizes
+  rows-in-use = rw A.held A.proper.row_sizes.few
+
+  pub accepted-columns : ProperSizes columns-used
+  accepted-columns = rw columns-are A.proper.column_sizes
+
+  pub accepted-rows : ProperSizes rows-used
+  accepted-rows = rw rows-are A.proper.row_sizes
+
+  pub accepted-some : {cs rs : List ℕ} → StartsAt columns-used cs → StartsAt rows-used rs
+      → StartsAt columns-used cs × StartsAt rows-used rs × (0 < length rows-used * length columns-used) × (p.pps_num_slices_in_pic_minus1 ≤ max_slices_minus1) × ((ps : List Group) × (walked (grid_with columns-used rows-used) p t ≡ placed ps))
+  accepted-some c r = (c, r, rw (columns-are, rows-are) A.proper.some-tile, A.few, (ps, rw grid-is A.walks))
+
+  pub accepted-made : (x : Placed) → ((ps : List Group) → walked (grid_with columns-used rows-used) p t ≡ placed ps → x ≡ placed_of (plan (grid_with columns-used rows-used) ps) ps) → x ≡ placed_of (plan g ps) ps
+  accepted-made x f = rw grid-is at (f ps (rw grid-is A.walks))

@@ -1,5 +1,5 @@
 -- What is demanded of slices and of the cover (`partition` Demand), of every record with a plan: for any answers that keep the contracts of the plan and the cover question.
-use Rattle.std.specs.Prelude.{◌+◌, ◌≤◌, ◌≡◌, false, List, length}
+use Rattle.std.specs.Prelude.{ℕ, ◌+◌, ◌≤◌, ◌≡◌, false, List, length, Result, Option}
 use Rattle.std.proofs.Common.{subst, ◌∙◌}
 use Rattle.partition.specs.Cover.{EachBlock, Exactly}
 use Rattle.partition.proofs.Demand.{slice-count, slices-inside, no-block_in_two, cover_exactly}
@@ -10,7 +10,7 @@ use Rattle.partition.specs.Slices.{AllInside, slices_at}
 use Rattle.pps_record.specs.declared.VvcPps.{VvcPps}
 use Rattle.pps_syntax.specs.FromRecord.{Lent}
 use Rattle.question_tests.specs.Questions.{layout_asked}
-use Rattle.tile_grid.specs.declared.CoverAnswer.{CoverAnswer}
+use Rattle.tile_grid.specs.declared.Cover.{Cover}
 use Rattle.tile_grid.specs.AskedDemand.{partition_asked, asked-planned, asked-layout}
 use Rattle.tile_grid.specs.PlanQuestion.{cover_named, RightAnswer}
 
@@ -34,6 +34,6 @@ module _ (r : VvcPps) (t : Lent) (there : r.partition.present ≡ 0 → ⊥) (g 
   asked-no-block_in_two d = no-block_in_two p ps (asked-planned r t there g ps e) d
 
   -- the cover question says whole, gap or double exactly when that is so
-  pub asked-cover_exactly : (c : CoverAnswer) → RightAnswer (layout_asked r t) c → Exactly (grid_of p) (plan (grid_of p) ps) (cover_named c)
+  pub asked-cover_exactly : (c : Result (Option Cover) ℕ) → RightAnswer (layout_asked r t) c → Exactly (grid_of p) (plan (grid_of p) ps) (cover_named c)
   unfolding RightAnswer
   asked-cover_exactly c h = cover_exactly p ps (asked-planned r t there g ps e) (cover_named c) (subst (λ (l : Layout). RightAnswer l c) own_grid h)

@@ -5,7 +5,7 @@ use Rattle.std.proofs.Common.{sym, ◌∙◌, inl, inr, eq-or-lt_of_le, mod-lt, 
 use Rattle.std.proofs.Math.Bool.{true, false}
 use native.Mathlib.Omega.{arith}
 use Rattle.std.proofs.Math.Dec.{eqb}
-use borrow.Author.Tests.{eqb-true, eqb-false, ne_eqb}
+use borrow.Author.Tests.{eqb-true, eqb-false}
 use Rattle.partition.specs.Cover.{Cover, no_plan, whole, gap, double, RightTiles}
 
 -- Each tile of the x columns before column x, and of the y rows of column x above row y.
@@ -26,28 +26,6 @@ with_tile no_plan t n = no_plan
 with_tile (gap s) t n = gap s
 with_tile (double s) t n = cond (eqb n 0) (gap t) (double s)
 with_tile whole t n = cond (eqb n 0) (gap t) (cond (eqb n 1) whole (double t))
-
--- ---- the cases of one tile more
-
-pub whole-none : (t n : ℕ) → n ≡ 0 → with_tile whole t n ≡ gap t
-unfolding with_tile
-whole-none t n e = rw e
-
-pub whole-one : (t n : ℕ) → n ≡ 1 → with_tile whole t n ≡ whole
-unfolding with_tile
-whole-one t n e = rw e
-
-pub whole-several : (t n : ℕ) → (n ≡ 0 → ⊥) → (n ≡ 1 → ⊥) → with_tile whole t n ≡ double t
-unfolding with_tile
-whole-several t n f g = rw (ne_eqb n 0 f, ne_eqb n 1 g)
-
-pub double-none : (s t n : ℕ) → n ≡ 0 → with_tile (double s) t n ≡ gap t
-unfolding with_tile
-double-none s t n e = rw e
-
-pub double-some : (s t n : ℕ) → (n ≡ 0 → ⊥) → with_tile (double s) t n ≡ double s
-unfolding with_tile
-double-some s t n f = rw (ne_eqb n 0 f)
 
 -- ---- tiles seen
 

@@ -69,10 +69,6 @@ module _ {ss at : List ℕ} {total i : ℕ} (P : ProperSizes ss) (S : Starting s
             let low : c ≤ i = omega arith in
             get_or-set_other at (i + 1) c (total + get_or ss i 0) 0 q ∙ S.each c low
 
-  pub starting_ends : length ss ≤ i → StartsAt ss at
-  starting_ends done =
-      record { long = S.long; few = P.few; each = λ c h. S.each c (omega arith); some = P.some; fits = P.fits }
-
 pub tiles-small : {ws cs hs rs : List ℕ} → StartsAt ws cs → StartsAt hs rs → length hs * length ws ≤ 4294967295
 tiles-small {ws} {cs} {hs} {rs} a b =
     let h : length hs * length ws ≤ length hs * max_tiles = mul-le-mul_left (length hs) a.few in

@@ -10,11 +10,9 @@ pub fn starts_of(sizes: &[u32]) -> [u32; MAX_TILES as usize + 1]
 {
     let mut at = [0u32; MAX_TILES as usize + 1];
     let mut total: u32 = 0;
-    let mut i = 0;
-    while i < sizes.len() {
-        total += sizes[i];
-        i += 1;
-        at[i] = total;
+    for (i, size) in sizes.iter().enumerate() {
+        total += *size;
+        at[i + 1] = total;
     }
     at
 }

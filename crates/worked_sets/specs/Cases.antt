@@ -1,6 +1,6 @@
 -- Worked examples of reading, of the grid, plan and cover questions and of escaping: one table of inputs and what each must come to, and one theorem, computed. What an input comes to is said
 -- by the definitions that the functions' contracts cite.
-use Rattle.std.specs.Prelude.{ℕ, ◌≡◌, refl, List, [], ◌∷◌, map, pos, negsuc, length, replicate, Result, Ok}
+use Rattle.std.specs.Prelude.{ℕ, ◌≡◌, refl, List, [], ◌∷◌, map, pos, negsuc, replicate, Result, Ok, Err}
 use Rattle.bit_reader.specs.Extension.{ones, taken_while_more, extension_bits}
 use Rattle.bit_reader.specs.Reading.{unless_refused, onward, u_read, stops, zeros_at, ue_after, ue_within, ue_read, se_read, trailing_read, demanded}
 use Rattle.codes.specs.Bytes.{bit_at, bits_at, bit_list}
@@ -12,10 +12,10 @@ use Rattle.partition.specs.Checks.{first_bad}
 use Rattle.partition.specs.Cover.{Cover, no_plan, whole, gap, double}
 use Rattle.partition.specs.Entry.{tile_x, tile_y, tile_row_height, in_last_row, height_coded, inherited_height, split_coded, split_heights, num_slices_in_tile, last_slice_of, some_at_least, default_advance, tile_after_delta, delta_leaves, delta_refused, delta_uncodable, next_tile, next_position, size_checks, inherited_checks, split_checks, move_checks, entry_checks}
 use Rattle.partition.specs.Examples.{up_to}
-use Rattle.partition.specs.Grid.{tiles, max_slices}
+use Rattle.partition.specs.Grid.{tiles}
 use Rattle.partition.specs.Groups.{stacked, group_slices, plan, groups_at, groups_at_tile}
 use Rattle.partition.specs.Lowest.{or_at, lowest, answer, lowest_cover, cover_of}
-use Rattle.partition.specs.Partition.{in_ctbs, tile_grid, explicit_checks, axis_checks, grid_checks, grid_of, grid_checks_of, slices_coded, delta_flag_checks, partition_checks, Layout, declined, unsliced, sliced, from_walk, unless, layout, plan_of}
+use Rattle.partition.specs.Partition.{in_ctbs, tile_grid, explicit_checks, axis_checks, grid_checks, grid_of, grid_checks_of, slices_coded, delta_flag_checks, partition_checks, Layout, declined, unsliced, sliced, from_walk, unless, layout}
 use Rattle.partition.specs.Sizes.{sum, explicit_sizes, uniform_size, tail_size, uniform_sizes, axis_sizes}
 use Rattle.partition.specs.Slices.{Slice}
 use Rattle.partition.specs.Sums.{among}
@@ -28,7 +28,6 @@ use Rattle.pps_answer.specs.declared.PpsAnswer.{PpsAnswer}
 use Rattle.pps_answer.specs.declared.PpsAnswer.TheVariants.{Accepted, Refused}
 use Rattle.pps_record.specs.Absent.{no_partition}
 use Rattle.pps_record.specs.declared.VvcPps.{VvcPps}
-use Rattle.pps_syntax.specs.BlockRefusal.{declined_with}
 use Rattle.pps_syntax.specs.Chroma.{chroma}
 use Rattle.pps_syntax.specs.Deblocking.{deblocking}
 use Rattle.pps_syntax.specs.FromRecord.{Lent, partition_from, extension_from, lengths_fit, counts_fit}
@@ -42,21 +41,21 @@ use Rattle.pps_syntax.specs.References.{references}
 use Rattle.pps_syntax.specs.SliceSyntax.{rect_slices}
 use Rattle.pps_syntax.specs.SliceTables.{split_count, slice_at, slices_from, split_total, bits_of_delta, delta_of_bits}
 use Rattle.pps_syntax.specs.SubpicIds.{subpic_ids}
-use Rattle.question_tests.specs.Questions.{flag_over1, record_checks, no_tiles, picture_layout, layout_asked}
 use Rattle.refusal.specs.declared.Refusal.{Refusal}
+use Rattle.refusal.specs.declared.Refusal.TheVariants.{SplitHeights}
+use Rattle.question_tests.specs.Questions.{flag_over1, record_checks, no_tiles, picture_layout, layout_asked}
 use Rattle.syntax.specs.Elements.{or_else}
 use Rattle.syntax.specs.Lists.{many, walk as walk_element}
 use Rattle.syntax.specs.Syntax.{◌>>=◌, parse}
 use Rattle.tables.specs.Tables.{over}
-use Rattle.grid_sizes.specs.Answers.{grid_of_sizes, refused_sizes, sizes_for, grid_sizes}
+use Rattle.grid_sizes.specs.Answers.{grid_of_sizes, sizes_for, grid_sizes}
 use Rattle.tile_grid.specs.Answers.{as_tile_grid, grid_answer}
 use Rattle.tile_grid.specs.GridQuestion.{sizes_of, grid_answer_of}
 use Rattle.tile_grid.specs.PlanQuestion.{plan_answer_of}
-use Rattle.tile_grid.specs.declared.GridAnswer.{GridAnswer}
-use Rattle.tile_grid.specs.declared.PlanAnswer.{PlanAnswer}
+use Rattle.tile_grid.specs.Rects.{plan_with}
+use Rattle.tile_grid.specs.declared.SlicePlan.{SlicePlan}
+use Rattle.tile_grid.specs.declared.TileGrid.{TileGrid}
 use Rattle.tile_sizes.specs.Answers.{slices_in_tile}
-use Rattle.tile_sizes.specs.Padded.{table_of}
-use Rattle.tile_sizes.specs.declared.SlicesInTile.{SlicesInTile}
 use Rattle.worked_sets.specs.Records.{picture, unpartitioned, partitioned, slicing, places, zero_tables, no_tables, row_of7, with_deltas, slice}
 
 -- ---- inputs and outcomes
@@ -76,11 +75,11 @@ pub data Case : Type 0 where
 pub data Outcome : Type 0 where
   -- the answer, and the extension bits in the work buffer
   reads : PpsRead → List ℕ → Outcome
-  grids : GridAnswer → Outcome
-  splits : SlicesInTile → Outcome
+  grids : Result TileGrid ℕ → Outcome
+  splits : Result ℕ Refusal → Outcome
   -- the grid's answer; the plan's; in how many slices the blocks of each tile lie (`partition` Groups.`tile-groups`); and the cover answer that names the lowest tile of those that
   -- qualify, which is a right one (Demand.`cover-right`)
-  answers : GridAnswer → PlanAnswer → List ℕ → Cover → Outcome
+  answers : Result TileGrid ℕ → Result SlicePlan ℕ → List ℕ → Cover → Outcome
   -- the answer, and the output
   escapes : Result ℕ Refusal → List ℕ → Outcome
 
@@ -135,23 +134,14 @@ accepts flag first_bit count bits = reads (accepted_pps (picture 1 1 1 no_partit
 abbrev refuses : ℕ → Outcome
 refuses n = reads (refused_pps n) []
 
--- a refusal, or 0 and these slices
-abbrev plans : ℕ → List Slice → PlanAnswer
-plans n ss =
-    record {
-      refused = n;
-      num_slices = length ss;
-      left = table_of max_slices (map (λ s. s.left) ss);
-      top = table_of max_slices (map (λ s. s.top) ss);
-      width = table_of max_slices (map (λ s. s.width) ss);
-      height = table_of max_slices (map (λ s. s.height) ss);
-    }
+abbrev plans : List Slice → Result SlicePlan ℕ
+plans ss = Ok (plan_with ss)
 
-abbrev grid_answered : List ℕ → List ℕ → GridAnswer
-grid_answered columns rows = as_tile_grid (grid_of_sizes columns rows)
+abbrev grid_answered : List ℕ → List ℕ → Result TileGrid ℕ
+grid_answered columns rows = as_tile_grid (Ok (grid_of_sizes columns rows))
 
 abbrev declines : ℕ → Outcome
-declines n = answers (as_tile_grid (refused_sizes n)) (plans n []) [] no_plan
+declines n = answers (Err n) (Err n) [] no_plan
 
 -- an output of 5 bytes to escape into
 abbrev room : List ℕ
@@ -171,22 +161,22 @@ cases =
     ∷ example (reading (0x00 ∷ 0x81 ∷ [])) (refuses 7)
     -- Tiles. 10 CTBs: explicit 3 gives 3, 3, 3, 1; 5, 6 gives 12
     ∷ example (tiling 320 32 0 (2 ∷ []) (0 ∷ [])) (grids (grid_answered (3 ∷ 3 ∷ 3 ∷ 1 ∷ []) (1 ∷ [])))
-    ∷ example (tiling 320 32 0 (4 ∷ 5 ∷ []) (0 ∷ [])) (grids (as_tile_grid (refused_sizes 12)))
+    ∷ example (tiling 320 32 0 (4 ∷ 5 ∷ []) (0 ∷ [])) (grids (Err 12))
     -- Slices in a tile. A row of 7 CTBs: heights 3, 2 give three slices; 4, 4 gives 16
-    ∷ example (splitting (2 ∷ 1 ∷ []) 7) (splits (record { refused = 0; num_slices = 3 }))
-    ∷ example (splitting (3 ∷ 3 ∷ []) 7) (splits (record { refused = 16; num_slices = 0 }))
+    ∷ example (splitting (2 ∷ 1 ∷ []) 7) (splits (Ok 3))
+    ∷ example (splitting (3 ∷ 3 ∷ []) 7) (splits (Err SplitHeights))
     -- the same asked of a record
-    ∷ example (asking (partitioned 32 224 (slicing 2 0 1)) (row_of7 (2 ∷ 1 ∷ []))) (answers (grid_answered (1 ∷ []) (7 ∷ [])) (plans 0 (slice 0 0 1 3 ∷ slice 0 3 1 2 ∷ slice 0 5 1 2 ∷ [])) (1 ∷ []) whole)
+    ∷ example (asking (partitioned 32 224 (slicing 2 0 1)) (row_of7 (2 ∷ 1 ∷ []))) (answers (grid_answered (1 ∷ []) (7 ∷ [])) (plans (slice 0 0 1 3 ∷ slice 0 3 1 2 ∷ slice 0 5 1 2 ∷ [])) (1 ∷ []) whole)
     ∷ example (asking (partitioned 32 224 (slicing 2 0 1)) (row_of7 (3 ∷ 3 ∷ []))) (declines 16)
     -- Cover. 2 × 2 tiles, N 1, first slice one tile: gap, tile 2
-    ∷ example (asking (partitioned 64 64 (slicing 1 0 1)) zero_tables) (answers (grid_answered (1 ∷ 1 ∷ []) (1 ∷ 1 ∷ [])) (plans 0 (slice 0 0 1 1 ∷ slice 1 0 1 2 ∷ [])) (1 ∷ 1 ∷ 0 ∷ 1 ∷ []) (gap 2))
+    ∷ example (asking (partitioned 64 64 (slicing 1 0 1)) zero_tables) (answers (grid_answered (1 ∷ 1 ∷ []) (1 ∷ 1 ∷ [])) (plans (slice 0 0 1 1 ∷ slice 1 0 1 2 ∷ [])) (1 ∷ 1 ∷ 0 ∷ 1 ∷ []) (gap 2))
     -- N 2, deltas: tile 0, +1; tiles 1 and 3, −1; and the last slice from tile 0 over all: double; tiles 0, 1 and 3 qualify
-    ∷ example (asking (partitioned 64 64 (slicing 2 1 2)) (with_deltas (pos 1) (negsuc 0))) (answers (grid_answered (1 ∷ 1 ∷ []) (1 ∷ 1 ∷ [])) (plans 0 (slice 0 0 1 1 ∷ slice 1 0 1 2 ∷ slice 0 0 2 2 ∷ [])) (2 ∷ 2 ∷ 1 ∷ 2 ∷ []) (double 0))
+    ∷ example (asking (partitioned 64 64 (slicing 2 1 2)) (with_deltas (pos 1) (negsuc 0))) (answers (grid_answered (1 ∷ 1 ∷ []) (1 ∷ 1 ∷ [])) (plans (slice 0 0 1 1 ∷ slice 1 0 1 2 ∷ slice 0 0 2 2 ∷ [])) (2 ∷ 2 ∷ 1 ∷ 2 ∷ []) (double 0))
     -- What the questions refuse. A delta of −2147483648, before 18; a delta flag with N 1
     ∷ example (asking (partitioned 64 64 (slicing 2 1 2)) (with_deltas (negsuc 2147483647) (pos 0))) (declines 25)
     ∷ example (asking (partitioned 64 64 (slicing 1 1 1)) zero_tables) (declines 26)
     -- unpartitioned: no columns, no rows, no plan; then with a partition all the same, with a width of 0, with tables below their lengths
-    ∷ example (asking (unpartitioned 1 1) zero_tables) (answers (grid_answered [] []) (plans 0 []) [] no_plan)
+    ∷ example (asking (unpartitioned 1 1) zero_tables) (answers (grid_answered [] []) (plans []) [] no_plan)
     ∷ example (asking (picture 1 1 1 (slicing 0 0 0) 0 0 0) zero_tables) (declines 26)
     ∷ example (asking (unpartitioned 0 1) zero_tables) (declines 7)
     ∷ example (asking (unpartitioned 1 1) no_tables) (declines 5)
@@ -197,5 +187,5 @@ cases =
 
 -- every input comes to what is wanted
 pub all-cases : map (λ (e : Example). outcome e.input) cases ≡ map (λ (e : Example). e.wanted) cases
-unfolding cases outcome extension_of slices_of_tiles cover_for places ones taken_while_more extension_bits unless_refused onward u_read stops zeros_at ue_after ue_within ue_read se_read trailing_read demanded bit_at bits_at bit_list signed_of output_after escape_answer escape_out zero_run is_escape needs_escape unescape_from unescape escape_byte escape_run escape_end escape_from escape boundary span first_bad tile_x tile_y tile_row_height in_last_row height_coded inherited_height split_coded split_heights num_slices_in_tile last_slice_of some_at_least default_advance tile_after_delta delta_leaves delta_refused delta_uncodable next_tile next_position size_checks inherited_checks split_checks move_checks entry_checks up_to stacked group_slices plan groups_at groups_at_tile or_at lowest answer lowest_cover cover_of in_ctbs tile_grid explicit_checks axis_checks grid_checks grid_of grid_checks_of slices_coded delta_flag_checks partition_checks from_walk unless layout plan_of sum explicit_sizes uniform_size tail_size uniform_sizes axis_sizes among slice_heights_of entry_group last_group after walk answer_of after_fields parse_pps no_partition chroma deblocking partition_from extension_from lengths_fit counts_fit head conf_win scaling_win kind partition partition_of picture_header front back pps extension_for answered read_rbsp before_fields rbsp_of partition_record record_of references rect_slices split_count slice_at slices_from split_total bits_of_delta delta_of_bits subpic_ids flag_over1 record_checks no_tiles picture_layout layout_asked or_else many walk_element ◌>>=◌ parse over sizes_for grid_sizes as_tile_grid grid_answer sizes_of plan_answer_of declined_with slices_in_tile
+unfolding cases outcome extension_of slices_of_tiles cover_for places ones taken_while_more extension_bits unless_refused onward u_read stops zeros_at ue_after ue_within ue_read se_read trailing_read demanded bit_at bits_at bit_list signed_of output_after escape_answer escape_out zero_run is_escape needs_escape unescape_from unescape escape_byte escape_run escape_end escape_from escape boundary span first_bad tile_x tile_y tile_row_height in_last_row height_coded inherited_height split_coded split_heights num_slices_in_tile last_slice_of some_at_least default_advance tile_after_delta delta_leaves delta_refused delta_uncodable next_tile next_position size_checks inherited_checks split_checks move_checks entry_checks up_to stacked group_slices plan groups_at groups_at_tile or_at lowest answer lowest_cover cover_of in_ctbs tile_grid explicit_checks axis_checks grid_checks grid_of grid_checks_of slices_coded delta_flag_checks partition_checks from_walk unless layout sum explicit_sizes uniform_size tail_size uniform_sizes axis_sizes among slice_heights_of entry_group last_group after walk answer_of after_fields parse_pps no_partition chroma deblocking partition_from extension_from lengths_fit counts_fit head conf_win scaling_win kind partition partition_of picture_header front back pps extension_for answered read_rbsp before_fields rbsp_of partition_record record_of references rect_slices split_count slice_at slices_from split_total bits_of_delta delta_of_bits subpic_ids flag_over1 record_checks no_tiles picture_layout layout_asked or_else many walk_element ◌>>=◌ parse over sizes_for grid_sizes as_tile_grid grid_answer sizes_of plan_answer_of slices_in_tile
 all-cases = refl

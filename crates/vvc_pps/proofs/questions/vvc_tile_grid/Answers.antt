@@ -3,4 +3,4 @@ use Rattle.vvc_pps.specs.QuestionAnswers.{grid_held}
 use Rattle.vvc_pps.proofs.questions.vvc_tile_grid.Goals as goal
 
 pub returns : goal.returns
-returns c = c.of_grid.ensures ∙ ap grid_held c.of_record.ensures
+returns c = c.from.ensures ∙ ap grid_held c.of_record.ensures.grid

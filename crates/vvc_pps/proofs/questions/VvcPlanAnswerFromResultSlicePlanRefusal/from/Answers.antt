@@ -1,0 +1,10 @@
+use Rattle.grid_sizes.specs.Answers.{with_number}
+use Rattle.vvc_pps.proofs.questions.VvcPlanAnswerFromResultSlicePlanRefusal.from.Goals as goal
+
+pub returns-in-Ok : goal.returns-in-Ok
+unfolding with_number
+returns-in-Ok c = rw c.in-Ok.is c.of_plan.ensures
+
+pub returns-in-Err : goal.returns-in-Err
+unfolding with_number
+returns-in-Err c = rw (c.in-Err.is, c.number.ensures)

@@ -1,5 +1,0 @@
-use mathlib.Core.Path.{refl}
-use Rattle.vvc_pps.proofs.questions.of_grid.Goals as goal
-
-pub returns : goal.returns
-returns c = refl
