@@ -2,35 +2,16 @@
 // (docs/BEHAVIOUR.md, 5).
 #![tactic(auto)]
 
-ghost use Rattle.std.specs.Prelude.{◌&&◌, ◌≡◌, leb, ◌+◌, min};
+ghost use Rattle.std.specs.Prelude.{◌&&◌, ◌≡◌, leb};
 ghost use Rattle.partition.specs.Grid.{max_slices};
 ghost use Rattle.pps_syntax.specs.FromRecord.{tables_long, counts_fit};
-ghost use Rattle.pps_syntax.specs.SliceTables.{split_count, split_total};
+ghost use Rattle.pps_syntax.specs.SliceTables.{split_total};
 ghost use Rattle.pps_tables.specs.Lent.{slices_of, lent_of};
-ghost use Rattle.pps_lent.specs.Tables.{split_tables};
 
 use pps_record::VvcPps;
 use pps_record::lengths::SUBPIC_IDS;
-use pps_tables::{ENTRY_LEN, LentTables, SliceTables};
+use pps_tables::{LentTables, SliceTables};
 use tile_sizes::{MAX_NUM_SLICES_MINUS1, MAX_SLICES, MAX_TILE_COLUMNS, MAX_TILES};
-
-// How many split heights entry `i` has: none where its split part is absent.
-pub fn split_count(entries: &[[u32; ENTRY_LEN]], i: u32) -> u32
-    ensures { result ≡ split_count (split_tables entries.now) i }
-{
-    SliceTables {
-        entries,
-        split_heights: &[],
-    }
-    .split_count(i)
-}
-
-// The place behind so many more, in a table of this length.
-pub fn place_after(length: usize, from: usize, count: u32) -> usize
-    ensures { result ≡ min length (from + count) }
-{
-    from.saturating_add(count as usize).min(length)
-}
 
 // The split counts of the first `n` entries don't sum past their table.
 fn split_total_fits(slices: SliceTables<'_>, n: u32) -> bool

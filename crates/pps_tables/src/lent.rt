@@ -5,7 +5,10 @@ ghost use Rattle.pps_syntax.specs.SliceTables.{split_count};
 ghost use Rattle.pps_tables.specs.Lent.{slices_of, lent_of};
 ghost use Rattle.pps_tables.specs.Rows.{entry_of};
 
-use super::{ENTRY_LEN, RectSliceEntry, entry_at, tables_long};
+use super::{
+    DELTA_BITS, DELTA_PRESENT, ENTRY_LEN, HEIGHT, RectSliceEntry, SPLIT_COUNT, SPLIT_PRESENT,
+    WIDTH, delta_of_bits, tables_long,
+};
 
 // The slice entries and their split heights, one entry's behind the other's.
 #[derive(Clone, Copy)]
@@ -28,7 +31,16 @@ impl<'a> SliceTables<'a> {
     pub fn entry(self, i: u32) -> RectSliceEntry
         ensures { result ≡ entry_of (get_or self.entry.entries.now i []) }
     {
-        entry_at(self.entries, i)
+        let row = self.entries.get(i as usize).copied();
+        let row = row.unwrap_or([0; ENTRY_LEN]);
+        RectSliceEntry {
+            width: row[WIDTH],
+            height: row[HEIGHT],
+            split_present: row[SPLIT_PRESENT],
+            split_count: row[SPLIT_COUNT],
+            delta_present: row[DELTA_PRESENT],
+            delta: delta_of_bits(row[DELTA_BITS]),
+        }
     }
 
     // How many split heights entry i has: none where its split part is absent.

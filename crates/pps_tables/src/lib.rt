@@ -1,11 +1,11 @@
 // The lent tables: their lengths, the rows of the slice entries, and a delta as its 32 bits.
 #![tactic(auto)]
 
-ghost use Rattle.std.specs.Prelude.{[], ◌≡◌, length, get_or, set};
+ghost use Rattle.std.specs.Prelude.{◌≡◌, length, set};
 ghost use Rattle.tables.specs.Tables.{blank};
 ghost use Rattle.pps_syntax.specs.SliceTables.{bits_of_delta, delta_of_bits};
 ghost use Rattle.pps_syntax.specs.FromRecord.{lengths_fit};
-ghost use Rattle.pps_tables.specs.Rows.{entry_of, no_entry};
+ghost use Rattle.pps_tables.specs.Rows.{no_entry};
 
 use pps_record::lengths;
 use tables::clear;
@@ -79,21 +79,6 @@ pub struct RectSliceEntry {
     pub split_count: u32,
     pub delta_present: u32,
     pub delta: i32,
-}
-
-// Row i; zeros outside.
-pub fn entry_at(entries: &[[u32; ENTRY_LEN]], i: u32) -> RectSliceEntry
-    ensures { result ≡ entry_of (get_or entries.now i []) }
-{
-    let row = entries.get(i as usize).copied().unwrap_or([0; ENTRY_LEN]);
-    RectSliceEntry {
-        width: row[WIDTH],
-        height: row[HEIGHT],
-        split_present: row[SPLIT_PRESENT],
-        split_count: row[SPLIT_COUNT],
-        delta_present: row[DELTA_PRESENT],
-        delta: delta_of_bits(row[DELTA_BITS]),
-    }
 }
 
 // Every row becomes zeros.

@@ -18,8 +18,7 @@ use Rattle.question_tests.specs.Questions.{entries_in}
 use Rattle.slice_loop.specs.Loop.{position}
 use Rattle.question_tests.specs.Steps.{Stepped}
 use Rattle.question_tests.specs.Tables.{entry_at, entry_with}
-use Rattle.pps_lent.specs.Places.{heights-held}
-use Rattle.pps_tables.proofs.Places.{heights_at, place_behind}
+use Rattle.pps_tables.proofs.Places.{heights_at, heights-held, place_behind}
 use Rattle.question_tests.specs.Walking.{entries_from, first_entry, StandsAt, stands-first, stands_here, stands_after}
 
 -- every number of an entry's checks is above 0

@@ -14,8 +14,7 @@ use Rattle.partition.specs.Grid.{Grid, columns}
 use Rattle.partition.specs.Walk.{row_height_of, onward}
 use Rattle.pps_syntax.specs.SliceSyntax.{entry_of}
 use Rattle.pps_syntax.specs.SliceTables.{SliceTables, split_count, slice_at, slices_from}
-use Rattle.pps_lent.specs.Places.{heights-held}
-use Rattle.pps_lent.specs.Tables.{split_tables, same_count}
+use Rattle.pps_tables.proofs.Places.{heights-held}
 use Rattle.pps_tables.specs.declared.RectSliceEntry.{RectSliceEntry}
 use Rattle.pps_tables.specs.Rows.{entry_of as fields_of}
 use Rattle.syntax.specs.Elements.{is_set}
@@ -38,11 +37,6 @@ module _ (t : SliceTables) where
   first_entry i j n from to h p q =
       let z : n - i ≡ suc (n - (i + 1)) = omega arith in
       rw (z, heights-held t.split_heights (split_count t i) j from to p q)
-
--- the place behind an entry's heights, by its count
-pub place-behind : (t : SliceTables) (i from to splits : ℕ) → splits ≡ split_count (split_tables t.entries) i → to ≡ min (length t.split_heights) (from + splits)
-    → to ≡ min (length t.split_heights) (from + split_count t i)
-place-behind t i from to splits e q = q ∙ rw (e, same_count t i)
 
 -- ---- where the loop stands
 
