@@ -5,7 +5,7 @@
 ghost use Rattle.std.specs.Prelude.{◌≡◌, IfOk};
 ghost use Rattle.pps_tables.specs.Lent.{lent_of};
 ghost use Rattle.tile_grid.specs.Answers.{grid_answer};
-ghost use Rattle.grid_sizes.specs.Answers.{with_number};
+ghost use Rattle.refusal.specs.Answers.{with_number};
 ghost use Rattle.tile_grid.specs.GridQuestion.{of_record, SumsFit};
 ghost use Rattle.tile_grid.specs.Placed.{has_slices};
 ghost use Rattle.tile_grid.specs.PlanQuestion.{slice_plan, SliceCover};

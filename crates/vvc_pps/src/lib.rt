@@ -244,7 +244,10 @@ pub extern "C" fn vvc_sink_answer(w: Sink, room: usize) -> VvcByteCount
     ensures { result ≡ byte_count (answer_of w room) }
 {
     match w.answer(room) {
-        Ok(put) => VvcByteCount { refused: 0, bytes: put },
+        Ok(put) => VvcByteCount {
+            refused: 0,
+            bytes: put,
+        },
         Err(refused) => VvcByteCount { refused, bytes: 0 },
     }
 }

@@ -1,7 +1,7 @@
 // The questions on a record: its tile grid, its slice plan, and what its slices cover. An enum doesn't cross, so an
 // answer is a struct with the refusal's number beside the values, and the cover answer a kind with its values beside it.
 ghost use Rattle.std.specs.Prelude.{◌≡◌, Ok, length};
-ghost use Rattle.grid_sizes.specs.Answers.{with_number};
+ghost use Rattle.refusal.specs.Answers.{with_number};
 ghost use Rattle.pps_tables.specs.Parameters.{before};
 ghost use Rattle.partition.specs.Grid.{max_slices};
 ghost use Rattle.tile_grid.specs.GridQuestion.{of_record};

@@ -1,6 +1,6 @@
 use Rattle.std.proofs.Common.{ap, ◌∙◌}
 use Rattle.tile_grid.specs.Answers.{as_tile_grid, grid_answer, number_at_exit}
-use Rattle.grid_sizes.specs.Answers.{with_number}
+use Rattle.refusal.specs.Answers.{with_number}
 use Rattle.tile_grid.proofs.TileGrid.new.Goals as goal
 
 pub returns-in_err-sizes : goal.returns-in_err-sizes

@@ -8,7 +8,8 @@ use Rattle.refusal.specs.Numbers.{refused}
 use Rattle.tile_grid.specs.Answers.{as_tile_grid, number_at_exit}
 use Rattle.tile_grid.specs.GridQuestion.{sizes_of, grid_answer_of}
 use Rattle.tile_grid.specs.InGrid.{asked-tests, asked-absent, asked-grid, asked-slices, asked-accepted, sums-fit}
-use Rattle.grid_sizes.specs.Answers.{with_number, grid_of_sizes}
+use Rattle.refusal.specs.Answers.{with_number}
+use Rattle.grid_sizes.specs.Answers.{grid_of_sizes}
 use Rattle.tile_sizes.specs.Padded.{zeros, table_of}
 use Rattle.tile_grid.proofs.TileGrid.of_record.Goals as goal
 

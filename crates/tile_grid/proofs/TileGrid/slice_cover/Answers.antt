@@ -2,7 +2,7 @@ use mathlib.Core.Path.{sym}
 use Rattle.std.proofs.Common.{◌∙◌}
 use Rattle.tile_grid.specs.Answers.{number_at_exit}
 use Rattle.tile_grid.specs.Covered.{cover-refused, cover-none, some-accepted, groups-within, cover-ready, cover-some}
-use Rattle.grid_sizes.specs.Answers.{with_number}
+use Rattle.refusal.specs.Answers.{with_number}
 use Rattle.tile_grid.proofs.TileGrid.slice_cover.Goals as goal
 
 pub returns-in_err-sizes : goal.returns-in_err-sizes

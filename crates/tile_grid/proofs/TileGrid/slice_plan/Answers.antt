@@ -2,7 +2,7 @@ use mathlib.Core.Path.{sym}
 use Rattle.std.proofs.Common.{◌∙◌}
 use Rattle.tile_grid.specs.Answers.{number_at_exit}
 use Rattle.tile_grid.specs.Covered.{plan-refused, plan-none, some-accepted, plan-some}
-use Rattle.grid_sizes.specs.Answers.{with_number}
+use Rattle.refusal.specs.Answers.{with_number}
 use Rattle.tile_grid.specs.Rects.{table_with, plan_with}
 use Rattle.tile_grid.proofs.TileGrid.slice_plan.Goals as goal
 

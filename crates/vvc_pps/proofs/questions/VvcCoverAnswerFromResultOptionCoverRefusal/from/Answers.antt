@@ -1,6 +1,6 @@
 use Rattle.std.specs.Prelude.{◌≡◌, Some, None}
 use Rattle.tile_grid.specs.declared.Cover.TheVariants.{Whole, Gap, Double}
-use Rattle.grid_sizes.specs.Answers.{with_number}
+use Rattle.refusal.specs.Answers.{with_number}
 use Rattle.vvc_pps.proofs.questions.VvcCoverAnswerFromResultOptionCoverRefusal.from.Goals as goal
 
 pub returns-in-Ok-None : goal.returns-in-Ok-None

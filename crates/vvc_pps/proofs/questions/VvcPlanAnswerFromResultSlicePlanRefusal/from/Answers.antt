@@ -1,4 +1,4 @@
-use Rattle.grid_sizes.specs.Answers.{with_number}
+use Rattle.refusal.specs.Answers.{with_number}
 use Rattle.vvc_pps.proofs.questions.VvcPlanAnswerFromResultSlicePlanRefusal.from.Goals as goal
 
 pub returns-in-Ok : goal.returns-in-Ok
