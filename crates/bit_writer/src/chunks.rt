@@ -29,6 +29,7 @@ impl BitWriter {
         ensures { written self.new out.new ≡ feed (written self.old out.old) (to_bits n value) }
     {
         let mut k = n;
+        // Not a range: the first step takes what the byte has room for, the later ones 8.
         while 0 < k {
             let room = 8 - (self.have % 8) as u32;
             let m = k.min(room);

@@ -9,7 +9,7 @@ ghost use Rattle.bit_writer.specs.Written.{written, ended};
 use super::BitWriter;
 use refusal::Refusal;
 
-// The place of the highest 1.
+// The place of the highest 1; std has no ilog2.
 fn top(n: u64) -> u32
     requires { 0 < n }
     ensures { result ≡ floor_log2 n }

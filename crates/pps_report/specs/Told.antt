@@ -3,12 +3,11 @@
 use Rattle.std.specs.Prelude.{ℕ, ◌≡◌, refl, Bool, true, false, List, Result, Ok, Err, eqb, length}
 use Rattle.std.proofs.Math.Path.{sym, ap}
 use Rattle.std.proofs.Common.{◌∙◌}
-use Rattle.pps_answer.specs.Answers.{answer_of}
+use Rattle.pps_answer.specs.Answers.{PpsAnswer, Accepted, Refused, answer_of, said}
 use Rattle.pps_answer.specs.ParsePps.{ReadOutcome, outcome, parse_pps}
 use Rattle.pps_answer.specs.declared.AcceptedPps.{AcceptedPps}
-use Rattle.pps_answer.specs.declared.PpsAnswer.{PpsAnswer}
-use Rattle.pps_answer.specs.declared.PpsAnswer.TheVariants.{Accepted, Refused}
-use Rattle.pps_answer.specs.declared.PpsRead.{PpsRead}
+use Rattle.refusal.specs.declared.Refusal.{Refusal}
+use Rattle.refusal.specs.Numbers.{number, refused}
 use Rattle.pps_syntax.specs.FromRecord.{Lent, tables_long}
 use Rattle.pps_syntax.specs.Rbsp.{read_nal, before_fields}
 
@@ -18,12 +17,7 @@ refusal_of (Accepted a) = 0
 refusal_of (Refused n) = n
 
 unfoldable pub refusal_told : List ℕ → ℕ
-refusal_told nal = refusal_of (answer_of (read_nal nal 65536 true)).answer
-
--- The number in an answer that holds one in place of a refusal.
-abbrev pub refused_with : {A : Type 0} → Result A ℕ → ℕ
-refused_with (Ok _) = 0
-refused_with (Err n) = n
+refusal_told nal = refusal_of (answer_of (read_nal nal 65536 true))
 
 -- the answer of reading goes by the lengths of what is lent
 answer-read : (nal work : List ℕ) (t : Lent)
@@ -37,19 +31,17 @@ answer-read nal work t = cases (eqb (before_fields nal (length work) (tables_lon
     cases false e = rw e
 
 -- from what reading answers, with tables of the stated lengths
-module _ (nal work left : List ℕ) (t after : Lent) (r : PpsRead) (e : outcome r left after ≡ parse_pps nal work t)
+module _ (nal work left : List ℕ) (t after : Lent) (r : Result AcceptedPps Refusal) (e : outcome (said r) left after ≡ parse_pps nal work t)
     (w : length work ≡ 65536) (fit : tables_long t ≡ true) where
-  told : refusal_of r.answer ≡ refusal_told nal
+  said-number : (r : Result AcceptedPps Refusal) → refusal_of (said r) ≡ refused r
+  unfolding refusal_of said refused
+  said-number (Ok a) = refl
+  said-number (Err e) = refl
+
+  pub told : refused r ≡ refusal_told nal
   unfolding refusal_told
   told =
-      ap (λ (o : ReadOutcome). refusal_of o.answer.answer) e
-      ∙ ap (λ (a : PpsRead). refusal_of a.answer) (answer-read nal work t)
+      sym (said-number r)
+      ∙ ap (λ (o : ReadOutcome). refusal_of o.answer) e
+      ∙ ap refusal_of (answer-read nal work t)
       ∙ rw (w, fit)
-
-  pub told-refused : (n m : ℕ) → r.answer ≡ Refused n → m ≡ n → m ≡ refusal_told nal
-  unfolding refusal_of
-  told-refused n m q p = p ∙ sym (ap refusal_of q) ∙ told
-
-  pub told-accepted : (a : AcceptedPps) (m : ℕ) → r.answer ≡ Accepted a → m ≡ 0 → m ≡ refusal_told nal
-  unfolding refusal_of
-  told-accepted a m q p = p ∙ sym (ap refusal_of q) ∙ told

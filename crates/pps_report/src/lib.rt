@@ -5,6 +5,7 @@
 
 ghost use Rattle.std.specs.Prelude.{◌≡◌};
 ghost use Rattle.pps_report.specs.Told.{refusal_told};
+ghost use Rattle.refusal.specs.Numbers.{refused};
 
 mod drawing;
 mod input;
@@ -17,7 +18,8 @@ mod text;
 mod tiles;
 
 pub use input::{LARGEST, read_full};
-use report::report_of;
+use refusal::Refusal;
+use report::{Report, report_of};
 use text::Refused;
 use tile_sizes::{MAX_SLICES, MAX_TILE_COLUMNS, MAX_TILES};
 
@@ -28,34 +30,39 @@ const ROWS: usize = MAX_TILES as usize;
 
 const SLICES: usize = MAX_SLICES as usize;
 
+fn told(report: &Result<Report, Refusal>) -> u8
+    ensures { result ≡ refused report.now }
+{
+    match report {
+        Ok(_) => 0,
+        Err(refusal) => refusal.number(),
+    }
+}
+
 // Prints of a unit: bytes taken, size, tiles and cover, or the number of its refusal.
 pub fn print_info(rt: &impl Print, nal: &[u8]) -> u8
     ensures { result ≡ refusal_told nal.now }
 {
-    match report_of(nal) {
+    let report = report_of(nal);
+    match &report {
         Ok(report) => {
-            let _ = rt.print(&report);
-            0
+            let _ = rt.print(report);
         }
-        Err(number) => {
-            let _ = rt.println(Refused(number));
-            number
+        Err(refusal) => {
+            let _ = rt.println(Refused(*refusal));
         }
     }
+    told(&report)
 }
 
 // Prints a drawing of a unit's tiles and its numbered slices.
 pub fn print_svg(rt: &impl Print, nal: &[u8]) -> u8
     ensures { result ≡ refusal_told nal.now }
 {
-    match report_of(nal) {
-        Ok(report) => {
-            drawing::draw(rt, &report);
-            0
-        }
-        Err(number) => {
-            page::refused(rt, Refused(number));
-            number
-        }
+    let report = report_of(nal);
+    match &report {
+        Ok(report) => drawing::draw(rt, report),
+        Err(refusal) => page::refused(rt, Refused(*refusal)),
     }
+    told(&report)
 }

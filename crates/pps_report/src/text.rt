@@ -6,11 +6,11 @@ use tile_grid::Cover;
 
 // The number of a refusal.
 #[derive(Clone, Copy)]
-pub struct Refused(pub u8);
+pub struct Refused(pub Refusal);
 
 impl fmt::Display for Refused {
     fn fmt<W: fmt::Write>(&self, f: &mut fmt::Formatter<W>) -> fmt::Result {
-        let number = self.0;
+        let number = self.0.number();
         write!(f, "refused {number}")
     }
 }

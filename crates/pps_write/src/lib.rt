@@ -19,8 +19,8 @@ mod block;
 mod set;
 
 // What a set is put as.
-#[derive(Clone, Copy, PartialEq, Eq)]
-pub enum Form {
+#[derive(Clone, Copy)]
+enum Form {
     Rbsp,
     // 00 81, then the escaped RBSP.
     NalUnit,
