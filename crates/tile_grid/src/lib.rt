@@ -51,7 +51,8 @@ impl SliceRect {
     };
 }
 
-// The slices of a picture by slice index; places not in use are 0.
+// The slices of a picture by slice index; places not in use are 0. A table of the longest plan, since nothing is
+// allocated.
 #[derive(Clone, Copy)]
 pub struct SlicePlan {
     pub num_slices: u32,

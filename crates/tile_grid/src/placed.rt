@@ -32,7 +32,7 @@ impl TileGroup {
     };
 }
 
-// The slices, and the groups that they are cut from; places not in use are 0.
+// The slices, and the groups that they are cut from, in tables as long as a plan's can be; places not in use are 0.
 #[derive(Clone, Copy)]
 pub struct Placed {
     pub plan: SlicePlan,

@@ -39,6 +39,7 @@ pub fn stack(
     let mut top = block.top.0;
     let mut k = from.0;
     let mut j: usize = 0;
+    // By what is left: how many heights there are is not known before.
     while remaining > 0 {
         let h = next_size(heights_minus1, unit.0, j, remaining);
         slices[k as usize] = SliceRect {
