@@ -12,13 +12,12 @@ pub loop-i-init : goal.loop-i-init
 loop-i-init c =
     let first : c.args.from / 8 * 8 + c.args.from % 8 ≡ c.args.from = omega arith in
     let all : (c.args.from / 8 + c.args.count / 8 - c.args.from / 8) * 8 + c.args.count % 8 ≡ c.args.count = omega arith in
-    (refl, c.byte_at-a.ensures, ap₂ (λ (m n : ℕ). feed (written c.args.self.now c.args.out.now) (bit_list c.args.src.now m n)) first all)
+    (c.byte_at-a.ensures, ap₂ (λ (m n : ℕ). feed (written c.args.self.now c.args.out.now) (bit_list c.args.src.now m n)) first all)
 
 pub loop-i-preserved : goal.loop-i-preserved
 loop-i-preserved c = (
-  c.put_eight.auto.out ∙ c.loop-i.invariant.0,
   c.byte_at-b.ensures,
-  copy_turn _ _ c.loop-i.i (c.args.from % 8) _ _ _ _ (omega arith) c.loop-i.invariant.1 c.byte_at-b.ensures c.eight_of.ensures _ (omega arith) c.put_eight.ensures ∙ c.loop-i.invariant.2,
+  copy_turn _ _ c.loop-i.i (c.args.from % 8) _ _ _ _ (omega arith) c.loop-i.invariant.0 c.byte_at-b.ensures c.eight_of.ensures _ (omega arith) c.put_eight.ensures ∙ c.loop-i.invariant.1,
 )
 
 pub returns : goal.returns
@@ -28,6 +27,6 @@ returns c =
     let there : end ≡ i = omega arith in
     let rest : c.args.count % 8 ≡ (end - i) * 8 + c.args.count % 8 = omega arith in
     let next = c.byte_at-b-2.ensures ∙ ap (λ (k : ℕ). bits_at c.args.src.now ((k + 1) * 8) 8) there in
-    c.put_word.ensures ∙ copy_ends _ _ i (c.args.from % 8) (c.args.count % 8) _ _ _ (omega arith) c.loop-i.invariant.1 next c.eight_of-2.ensures (omega arith)
+    c.put_word.ensures ∙ copy_ends _ _ i (c.args.from % 8) (c.args.count % 8) _ _ _ (omega arith) c.loop-i.invariant.0 next c.eight_of-2.ensures (omega arith)
     ∙ ap (λ (n : ℕ). feed (written c.loop-i.self c.loop-i.out) (bit_list c.args.src.now (i * 8 + c.args.from % 8) n)) rest
-    ∙ c.loop-i.invariant.2 ∙ feed_on _ _ refl
+    ∙ c.loop-i.invariant.1 ∙ feed_on _ _ refl

@@ -12,9 +12,8 @@ loop-k-preserved c = let k = c.loop-k.k in
     let m = c.min-m.result in
     let v = c.args.value in (
       omega arith,
-      c.put_chunk.auto.out ∙ c.loop-k.invariant.1,
-      ap (λ (w : Writing). feed w (to_bits (k - m) v)) c.put_chunk.ensures ∙ sym (chunk_first _ k m v (omega (arith, c.min-m.ensures))) ∙ c.loop-k.invariant.2,
+      ap (λ (w : Writing). feed w (to_bits (k - m) v)) c.put_chunk.ensures ∙ sym (chunk_first _ k m v (omega (arith, c.min-m.ensures))) ∙ c.loop-k.invariant.1,
     )
 
 pub returns : goal.returns
-returns c = sym (feed-zero _ _ _ c.loop-k-test.false) ∙ c.loop-k.invariant.2
+returns c = sym (feed-zero _ _ _ c.loop-k-test.false) ∙ c.loop-k.invariant.1

@@ -8,13 +8,11 @@ use Rattle.pps_put_slices.proofs.sizes.put_sizes.Goals as goal
 pub returns-in_err-put_size : goal.returns-in_err-put_size
 returns-in_err-put_size c =
     stopped_at _ _ _ _ _ c.from_residual.ensures.1
-    ∙ sizes-turn _ c.args.limit (number c.args.refusal) c.args.sizes.now c.loop-v.v-index (omega arith) c.in_err-put_size.ensures ∙ c.loop-v.invariant.1
+    ∙ sizes-turn _ c.args.limit (number c.args.refusal) c.args.sizes.now c.loop-v.v-index (omega arith) c.in_err-put_size.ensures ∙ c.loop-v.invariant
 
 pub loop-v-preserved : goal.loop-v-preserved
-loop-v-preserved c = (
-  c.put_size.auto.out ∙ c.loop-v.invariant.0,
-  sizes-turn _ c.args.limit (number c.args.refusal) c.args.sizes.now c.loop-v.v-index (omega arith) c.in_ok-put_size.ensures ∙ c.loop-v.invariant.1,
-)
+loop-v-preserved c =
+    sizes-turn _ c.args.limit (number c.args.refusal) c.args.sizes.now c.loop-v.v-index (omega arith) c.in_ok-put_size.ensures ∙ c.loop-v.invariant
 
 pub returns : goal.returns
-returns c = sym (sizes-end _ c.args.limit (number c.args.refusal) c.args.sizes.now c.loop-v.v-index (omega arith)) ∙ c.loop-v.invariant.1
+returns c = sym (sizes-end _ c.args.limit (number c.args.refusal) c.args.sizes.now c.loop-v.v-index (omega arith)) ∙ c.loop-v.invariant

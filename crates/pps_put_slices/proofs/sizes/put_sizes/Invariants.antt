@@ -1,5 +1,5 @@
 use mathlib.Core.Path.{◌≡◌}
-use lib.ListN.{length, drop}
+use lib.ListN.{drop}
 use Rattle.refusal.specs.Numbers.{number}
 use Rattle.bit_writer.specs.Stop.{play_on}
 use Rattle.bit_writer.specs.Written.{written}
@@ -7,4 +7,4 @@ use Rattle.pps_put_slices.specs.Sizes.{sizes_symbols}
 use Rattle.pps_put_slices.proofs.sizes.put_sizes.Given as goal
 
 abbrev pub invariant-loop-v : goal.invariant-loop-v
-invariant-loop-v l = (length l.out ≡ length l.initial.out) × (play_on (written l.w l.out) (sizes_symbols l.limit (number l.refusal) (drop l.v-index l.sizes)) ≡ play_on (written l.initial.w l.initial.out) (sizes_symbols l.limit (number l.refusal) l.sizes))
+invariant-loop-v l = (play_on (written l.w l.out) (sizes_symbols l.limit (number l.refusal) (drop l.v-index l.sizes)) ≡ play_on (written l.initial.w l.initial.out) (sizes_symbols l.limit (number l.refusal) l.sizes))

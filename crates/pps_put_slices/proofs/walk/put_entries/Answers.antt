@@ -20,14 +20,14 @@ use Rattle.pps_put_slices.specs.Tabled.{slice-at, heights-few, entry_tabled}
 use Rattle.pps_put_slices.proofs.walk.put_entries.Goals as goal
 
 pub loop-i-init : goal.loop-i-init
-loop-i-init c = (refl, held-begins _ _ _ _ _ _)
+loop-i-init c = held-begins _ _ _ _ _ _
 
 pub returns-in_err-test : goal.returns-in_err-test
 unfolding number
 returns-in_err-test c =
     let w = written c.loop-i.w c.loop-i.out in
     at_err _ _ _ _ c.from_residual.ensures.1
-    ∙ held-left c.loop-i.invariant.1 (omega arith) (ltb-false _ _ c.in_err-test.ensures.failed) (c.in_err-test.ensures.put _ _ ∙ ap (λ (b : Bool). play_on w (check b 26)) c.in_err-test.ensures.failed)
+    ∙ held-left c.loop-i.invariant (omega arith) (ltb-false _ _ c.in_err-test.ensures.failed) (c.in_err-test.ensures.put _ _ ∙ ap (λ (b : Bool). play_on w (check b 26)) c.in_err-test.ensures.failed)
 
 pub put_rect_slice-requires : goal.put_rect_slice-requires
 put_rect_slice-requires c =
@@ -37,7 +37,7 @@ put_rect_slice-requires c =
 pub returns-in_err-next : goal.returns-in_err-next
 returns-in_err-next c =
     let a = c.args in
-    let H = c.loop-i.invariant.1 in
+    let H = c.loop-i.invariant in
     let t = slice_tables a.slices.entries.now a.slices.split_heights.now in
     let row = slice-at t c.loop-i.i c.entry-e.ensures H.place c.loop-i.from H.place_is c.split_heights_of-heights.ensures in
     let E = c.in_err-next.ensures (grid_with a.column_widths.now a.row_heights.now) H.at.preceding_height_minus1 (record { columns_are = refl; rows_are = refl; heights_are = refl }) in
@@ -47,14 +47,14 @@ returns-in_err-next c =
 pub loop-i-preserved : goal.loop-i-preserved
 loop-i-preserved c =
     let a = c.args in
-    let H = c.loop-i.invariant.1 in
+    let H = c.loop-i.invariant in
     let t = slice_tables a.slices.entries.now a.slices.split_heights.now in
     let row = slice-at t c.loop-i.i c.entry-e.ensures H.place c.loop-i.from H.place_is c.split_heights_of-heights.ensures in
     let E = c.in_ok-next.ensures (grid_with a.column_widths.now a.row_heights.now) H.at.preceding_height_minus1 (record { columns_are = refl; rows_are = refl; heights_are = refl }) in
     let F = entry_tabled row E in
     let behind = ap (λ (l : List ℕ). c.loop-i.from + length l) c.split_heights_of-heights.ensures ∙ place_behind a.slices.split_heights.now (split_count t c.loop-i.i) H.place c.loop-i.from H.place_is in
-    (c.put_rect_slice.auto.out ∙ c.loop-i.invariant.0, held_more H (ltb-true _ _ c.in_ok-test.ensures.passed) (omega arith) F.put F.follows behind)
+    held_more H (ltb-true _ _ c.in_ok-test.ensures.passed) (omega arith) F.put F.follows behind
 
 pub returns : goal.returns
 unfolding number
-returns c = held-over c.loop-i.invariant.1 c.loop-i-test.false (c.test-2.ensures.put _ _)
+returns c = held-over c.loop-i.invariant c.loop-i-test.false (c.test-2.ensures.put _ _)
