@@ -22,7 +22,7 @@ pub struct CoverWord(pub Result<Option<Cover>, Refusal>);
 impl fmt::Display for CoverWord {
     fn fmt<W: fmt::Write>(&self, f: &mut fmt::Formatter<W>) -> fmt::Result {
         match self.0 {
-            Err(refusal) => write!(f, "{}", Refused(refusal.number())),
+            Err(refusal) => write!(f, "{}", Refused(refusal)),
             Ok(None) => write!(f, "none"),
             Ok(Some(cover)) => write!(f, "{cover}"),
         }
