@@ -1,7 +1,4 @@
-use mathlib.Core.Bool.{true, false}
-use mathlib.Core.Path.{◌≡◌, sym, ap, ◌∙◌}
-use lib.Dec.{ltb}
-use Prim.Native.Nat.{ℕ}
+use mathlib.Core.Path.{sym, ◌∙◌}
 use Rattle.refusal.specs.Numbers.{number}
 use Rattle.bit_writer.proofs.ByValue.{tested-kept, late, passes, refuses}
 use Rattle.bit_writer.proofs.Sink.put_tested.Goals as goal
