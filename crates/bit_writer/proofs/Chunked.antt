@@ -1,10 +1,10 @@
 -- How a u64 computes the bits of a byte.
 use Prim.Native.Nat.{ℕ, ◌+◌, ◌-◌, ◌*◌, ◌%◌, ◌^◌, ◌≤◌, ◌<◌}
-use native.Mathlib.Nat.{mul-le-mul_right, le_of_lt, mod-lt, one-mul}
+use native.Mathlib.Nat.{one-mul}
 use native.Mathlib.Omega.{arith}
 use mathlib.Core.Path.{◌≡◌, sym, ◌∙◌}
 use lib.Count.{count_leading_zeros, leading_top}
-use lib.Pow.{pow_pos, pow_mono, shl_exact}
+use lib.Pow.{shl_exact}
 use Rattle.codes.specs.Bits.{to_bits}
 use Rattle.codes.specs.ExpGolomb.{floor_log2, log2_is}
 use Rattle.bit_writer.specs.Writing.{Writing, place, holding, put_byte, feed}

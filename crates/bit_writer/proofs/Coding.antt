@@ -2,7 +2,7 @@
 use Prim.Native.Nat.{ℕ, suc, ◌+◌, ◌-◌, ◌*◌, ◌%◌, ◌≤◌, ◌<◌, min}
 use native.Mathlib.Numerals.{add-one}
 use native.Mathlib.Omega.{arith}
-use mathlib.Core.Bool.{Bool, true}
+use mathlib.Core.Bool.{Bool}
 use mathlib.Core.List.{List, [], ◌∷◌, ◌++◌}
 use mathlib.Core.Path.{◌≡◌, sym, ap, ◌∙◌}
 use lib.Dec.{ltb}
@@ -11,7 +11,7 @@ use lib.ListN.{replicate}
 use Rattle.codes.specs.Bits.{to_bits, to_bits-zero}
 use Rattle.codes.specs.ExpGolomb.{floor_log2, log2_between, log2_below, ue_code, ue-code-number, code_num, se_code}
 use Rattle.codes.specs.Symbols.{putting, check, checked}
-use Rattle.bit_writer.specs.Writing.{Writing, feed, feed-append, play, play-append, play-bits, trailing_bits, finished, closed, with_refusal}
+use Rattle.bit_writer.specs.Writing.{Writing, feed, feed-append, trailing_bits, finished, closed, with_refusal}
 use Rattle.codes.specs.Coded.{flag_bit, se_symbols}
 use Rattle.bit_writer.specs.Stop.{play_on, on-bits, on_then}
 use Rattle.refusal.specs.declared.Refusal.{Refusal}

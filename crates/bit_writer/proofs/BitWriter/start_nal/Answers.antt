@@ -2,7 +2,6 @@ use Prim.Native.Nat.{ℕ}
 use mathlib.Core.List.{List}
 use mathlib.Core.Path.{ap, ap₂, ◌∙◌}
 use lib.ListN.{set}
-use Rattle.bit_writer.specs.declared.Sink.{Sink}
 use Rattle.bit_writer.specs.Writing.{Writing, sink_over}
 use Rattle.bit_writer.proofs.BitWriter.start_nal.Goals as goal
 
