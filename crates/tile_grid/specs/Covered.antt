@@ -1,7 +1,7 @@
 -- The plan and the cover question, from the grid question's answer.
 use Rattle.std.specs.Prelude.{ℕ, ◌-◌, ◌*◌, ◌/◌, ◌%◌, ◌≤◌, List, [], map, length, take, Ok, Err, Some, None}
 use Rattle.std.proofs.Math.Path.{◌≡◌, refl, sym, ap}
-use Rattle.std.proofs.Common.{◌∙◌, arith}
+use Rattle.std.proofs.Common.{◌∙◌, subst, arith}
 use Rattle.std.proofs.lemmas.List.{length-map}
 use Rattle.std.proofs.Math.Bool.{true, false}
 use Rattle.std.proofs.Math.Nat.{mul_comm}
@@ -10,8 +10,8 @@ use Rattle.partition.specs.Checks.{fine, first_bad}
 use Rattle.partition.specs.Cover.{RightTiles}
 use Rattle.partition.proofs.Cover.{tiles-right}
 use Rattle.partition.specs.Entry.{asking, first_position}
-use Rattle.partition.specs.Grid.{Grid, columns, rows, max_tile_columns, max_tiles, max_slices, max_slices_minus1}
-use Rattle.partition.specs.Groups.{Group, groups_at, plan}
+use Rattle.partition.specs.Grid.{Grid, tiles, columns, rows, max_tile_columns, max_tiles, max_slices, max_slices_minus1}
+use Rattle.partition.specs.Groups.{Group, AllFit, groups_at, plan}
 use Rattle.partition.specs.Partition.{Layout, declined, unsliced, sliced}
 use Rattle.partition.specs.Sizes.{sum}
 use Rattle.partition.specs.Walk.{placed}
@@ -34,6 +34,50 @@ use Rattle.tile_grid.specs.PlanQuestion.{plan_answer_of, named, cover_named, Rig
 use Rattle.tile_grid.specs.Rects.{tiles_of, no_tiles, plan_with}
 use Rattle.tile_grid.specs.TileGroups.{groups_in, Countable}
 use Rattle.tile_sizes.specs.Padded.{zeros, table_of}
+
+-- ---- layouts whose cover can be counted
+
+-- Groups in a grid within the limits.
+pub record Fitting (g : Grid) (ps : List Group) : Type 0 where
+  pub fit : AllFit g ps
+  pub some : 1 ≤ columns g
+  pub wide : columns g ≤ max_tile_columns
+  pub small : tiles g ≤ max_tiles
+  pub few : length ps ≤ max_slices
+
+unfoldable pub Coverable : Layout → Type 0
+Coverable (declined n) = n ≡ 0 → ⊥
+Coverable (unsliced g) = Unit {0}
+Coverable (sliced g ps) = Fitting g ps
+
+fitting : (r : VvcPps) (t : Lent) (ps : List Group) → first_bad (checks r t) ≡ fine → r.partition.pps_num_slices_in_pic_minus1 ≤ max_slices_minus1
+    → walked (grid r t) r.partition t.slices ≡ placed ps → Fitting (grid r t) ps
+fitting r t ps ok f w =
+    record {
+      fit = walk-fits _ asking _ _ _ first_position ps (λ _. some-tile r t ok) w;
+      some = a-column r t ok;
+      wide = few-columns r t ok;
+      small = few-tiles r t ok;
+      few = omega (arith, f, walk-groups _ asking _ _ _ first_position ps (omega arith) w);
+    }
+
+-- Every layout that a question comes to: none is declined with 0.
+pub asked_coverable : (r : VvcPps) (t : Lent) → Coverable (layout_asked r t)
+unfolding Coverable declined_with
+asked_coverable r t = go (layout_asked r t) refl
+  where
+    accepted : Asked r t → (n : ℕ) → layout_asked r t ≡ declined n → ⊥
+    accepted (without c g i) n e = let q : unsliced g ≡ declined n = sym i ∙ e in let y : ◌≡◌ {A = ℕ} 0 1 = cc in omega arith
+    accepted (with_groups c ok f ps w i) n e = let q : sliced (grid r t) ps ≡ declined n = sym i ∙ e in let y : ◌≡◌ {A = ℕ} 0 1 = cc in omega arith
+
+    kept : Asked r t → Coverable (layout_asked r t)
+    kept (without c g i) = rw i tt
+    kept (with_groups c ok f ps w i) = rw i (fitting r t ps ok f w)
+
+    go : (l : Layout) → layout_asked r t ≡ l → Coverable l
+    go (declined n) e = λ z. accepted (asked-cases r t (rw e (sym z))) n e
+    go (unsliced g) e = tt
+    go (sliced g ps) e = subst Coverable e (kept (asked-cases r t (rw e refl)))
 
 -- ---- a refusal
 pub plan-refused : (l : Layout) (n : ℕ) → Err n ≡ grid_answer_of l → Err n ≡ plan_answer_of l
@@ -123,8 +167,8 @@ module _ (r : VvcPps) (t : Lent) (a : TileGrid) (e : Ok a ≡ of_record r t) whe
       unfolding plan_answer_of placed_of
       plan-some = rw (x-is, planned.is)
 
-      groups-few : length planned.groups ≤ max_slices
-      groups-few = omega (arith, planned.few, walk-groups _ asking _ _ _ first_position planned.groups (omega arith) planned.walks)
+      fits : Fitting (grid r t) planned.groups
+      fits = fitting r t planned.groups planned.ok planned.few planned.walks
 
       front : take x.num_groups x.groups ≡ map tiles_of planned.groups
       unfolding placed_of
@@ -132,17 +176,17 @@ module _ (r : VvcPps) (t : Lent) (a : TileGrid) (e : Ok a ≡ of_record r t) whe
 
       pub groups-within : x.num_groups ≤ max_slices
       unfolding placed_of
-      groups-within = rw x-is groups-few
+      groups-within = rw x-is fits.few
 
       pub cover-ready : Countable a.sizes.num_tile_columns a.sizes.num_tile_rows (take x.num_groups x.groups)
       unfolding grid_of_sizes
       cover-ready =
           rw (sizes-are, front)
           (record {
-            some = a-column r t planned.ok;
-            wide = few-columns r t planned.ok;
-            small = omega (arith, few-tiles r t planned.ok, mul_comm (columns (grid r t)) (rows (grid r t)));
-            few = omega (arith, groups-few, length-map planned.groups tiles_of);
+            some = fits.some;
+            wide = fits.wide;
+            small = omega (arith, fits.small, mul_comm (columns (grid r t)) (rows (grid r t)));
+            few = omega (arith, fits.few, length-map planned.groups tiles_of);
           })
 
       pub cover-some : (c : Cover) → RightTiles (a.sizes.num_tile_columns * a.sizes.num_tile_rows) (λ k. groups_at (groups_in (take x.num_groups x.groups)) (k % a.sizes.num_tile_columns) (k / a.sizes.num_tile_columns)) (named c)
@@ -150,5 +194,5 @@ module _ (r : VvcPps) (t : Lent) (a : TileGrid) (e : Ok a ≡ of_record r t) whe
       unfolding RightAnswer cover_named grid_of_sizes
       cover-some c h =
           rw planned.is
-          (tiles-right (grid r t) planned.groups (walk-fits _ asking _ _ _ first_position planned.groups (λ _. some-tile r t planned.ok) planned.walks) (named c)
+          (tiles-right (grid r t) planned.groups fits.fit (named c)
           (right-held (grid r t) planned.groups (named c) (rw (sizes-are, front) at h)))
