@@ -550,7 +550,7 @@ module _ {s : GridSizes} {p : VvcPpsPartition} {t : SliceTables} {g : Grid} {ps 
 
   pub columns-in-use : s.num_tile_columns ≤ max_tile_columns
   unfolding grid_of_sizes
-  columns-in-use = rw A.held A.proper.few-columns
+  columns-in-use = rw A.held A.few-columns
 
   pub rows-in-use : s.num_tile_rows ≤ max_tiles
   unfolding grid_of_sizes
