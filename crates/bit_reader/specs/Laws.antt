@@ -1,10 +1,12 @@
 -- Laws of the readers' definitions: each way that a reader comes to its answer.
 use Rattle.std.specs.Prelude.{ℕ, zero, suc, ◌+◌, ◌-◌, ◌*◌, ◌/◌, ◌%◌, ◌^◌, ◌≤◌, ◌<◌, ◌≡◌, refl, List, Bool, true, false, cond, ltb, eqb}
 use Rattle.std.proofs.Common.{sym, ap, ◌∙◌, arith, pow-suc, pow_mono, pow_pos}
+use Rattle.std.proofs.lemmas.Bool.{eqb-false}
 use borrow.Author.Tests.{lt-ltb, le-ltb, eq-eqb, ne_eqb, ltb-true, eqb-true}
 use Rattle.codes.specs.Bytes.{bit_count, bit_at, bits_at, bits_none, bits-lt, bits_past}
 use Rattle.bit_reader.specs.declared.Cursor.{Cursor}
 use Rattle.bit_reader.specs.declared.BitsRead.{BitsRead}
+use Rattle.bit_reader.specs.Gives.{Parsed, tested}
 use Rattle.bit_reader.specs.Reading.{cursor_at, refusal, unless_refused, onward, u_read, stops, zeros_at, ue_after, ue_within, ue_read, trailing_read, demanded}
 
 -- what holds of both outcomes of a test
@@ -185,3 +187,18 @@ demanded-refused false n c h = rw (ne_eqb c.refused 0 h)
 pub demanded-false : (ok : Bool) (n : ℕ) (c : Cursor) → ok ≡ false → c.refused ≡ 0 → demanded ok n c ≡ refusal c n
 unfolding demanded
 demanded-false ok n c e h = rw (e, eq-eqb c.refused 0 h)
+
+-- a test behind which nothing is refused held, and nothing was refused before it
+pub demanded-held : (ok : Bool) (n : ℕ) (c : Cursor) → 0 < n → (demanded ok n c).refused ≡ 0 → (ok ≡ true) × (c.refused ≡ 0)
+unfolding demanded
+demanded-held true n c l h = (refl, h)
+demanded-held false n c l h = absurd (split (eqb c.refused 0) refl h)
+  where
+    split : (t : Bool) → eqb c.refused 0 ≡ t → ◌≡◌ {A = ℕ} (cond t (refusal c n) c).refused 0 → ⊥
+    split true e h = omega arith
+    split false e h = eqb-false c.refused 0 e h
+
+-- a value that was tested and not refused passed its test
+pub tested-held : {A : Type 0} (ok : A → Bool) (n : ℕ) (read : List ℕ → Cursor → Parsed A) (s : List ℕ) (c : Cursor) → 0 < n → (tested ok n read s c).next.refused ≡ 0
+    → ok (tested ok n read s c).value ≡ true
+tested-held ok n read s c l h = (demanded-held (ok (read s c).value) n (read s c).next l h).0

@@ -1,6 +1,7 @@
 -- What reading answers, as docs/BEHAVIOUR.md has it: the record, the triples beside it and the bytes taken, or the
 -- number of a refusal.
-use Rattle.std.specs.Prelude.{ℕ, ◌/◌, List, cond, eqb, Result, Ok, Err}
+use Rattle.std.specs.Prelude.{ℕ, ◌/◌, ◌≡◌, List, cond, eqb, Result, Ok, Err}
+use Rattle.std.proofs.Common.{eq-eqb, ne_eqb}
 use Rattle.refusal.specs.declared.Refusal.{Refusal}
 use Rattle.refusal.specs.Numbers.{number}
 use Rattle.bit_reader.specs.declared.Cursor.{Cursor}
@@ -89,3 +90,12 @@ unfoldable pub answer_from : FrontRead → VvcPpsPartition → BackRead → List
 answer_from f p b s c =
     let n : Parsed ℕ = end_read b.picture_header.pps_extension_flag s c in
     parsed (record { pps = record_from f p b (first_bit n.value c.at) n.value; triples = b.chroma.triples; bytes_taken = n.next.at / 8 }) n.next
+
+-- ---- where extension bits start
+pub first-none : (bits at : ℕ) → bits ≡ 0 → 0 ≡ first_bit bits at
+unfolding first_bit
+first-none bits at e = rw (eq-eqb bits 0 e)
+
+pub first_some : (bits at : ℕ) → (bits ≡ 0 → ⊥) → at ≡ first_bit bits at
+unfolding first_bit
+first_some bits at e = rw (ne_eqb bits 0 e)

@@ -1,7 +1,7 @@
 -- The list of ids: what the code counts and the bits it reads, as the description has them.
-use Rattle.std.specs.Prelude.{ℕ, zero, suc, ◌+◌, ◌≤◌, min, ◌≡◌, refl, List, [], Bool, true, false, cond, eqb, length, Result, Ok, Err}
+use Rattle.std.specs.Prelude.{ℕ, zero, suc, ◌+◌, ◌≤◌, min, ◌≡◌, refl, List, [], Bool, true, false, cond, eqb, leb, length, Result, Ok, Err}
 use Rattle.std.specs.Result.{IsErr, IsErrAnd}
-use Rattle.std.proofs.Common.{sym, ap, ◌∙◌, arith, eqb-true, eq-eqb}
+use Rattle.std.proofs.Common.{sym, ap, ◌∙◌, arith, eqb-true, eq-eqb, leb-true}
 use Rattle.std.proofs.lemmas.List.Edits.{sets}
 use Rattle.std.proofs.lemmas.Bool.{eqb-false}
 use Rattle.refusal.specs.declared.Refusal.{Refusal}
@@ -67,3 +67,15 @@ module _ (partitioned : Bool) {p q : BitReader} where
       → Gives (held_as mapping_of (parse (subpic_ids partitioned))) p q (Ok (record (mapping_of m) { num_subpic_ids = n })) × (t ≡ sets t₀ 0 (value_read (parse (subpic_ids partitioned)) p).pps_subpic_id)
   mapping_read {m} {n} t₀ g e f =
       (holds mapping_of g (ap (λ (k : ℕ). record (mapping_of m) { num_subpic_ids = k }) (sym e)), f ∙ ap (λ (v : SubpicIds). sets t₀ 0 v.pps_subpic_id) (sym g.value))
+
+-- code reads at most 32 bits for an id; a coded length that was not refused has at most 16
+pub id-bits : (count len : ℕ) (s : List ℕ) (c : Cursor) → (c.refused ≡ 0 → leb len 15 ≡ true)
+    → (many count (u (min (len + 1) 32) 27) 27).read s c ≡ (many count (u (suc (min len 15)) 27) 27).read s c
+id-bits count len s c held = split (eqb c.refused 0) refl
+  where
+    split : (t : Bool) → eqb c.refused 0 ≡ t → (many count (u (min (len + 1) 32) 27) 27).read s c ≡ (many count (u (suc (min len 15)) 27) 27).read s c
+    split true e =
+        let l = leb-true len 15 (held (eqb-true c.refused 0 e)) in
+        let m : min (len + 1) 32 ≡ suc (min len 15) = omega arith in
+        ap (λ (n : ℕ). (many count (u n 27) 27).read s c) m
+    split false e = many-refused count (min (len + 1) 32) s c (eqb-false c.refused 0 e) ∙ sym (many-refused count (suc (min len 15)) s c (eqb-false c.refused 0 e))

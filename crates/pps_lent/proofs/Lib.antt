@@ -1,1 +1,2 @@
 pub mod SplitTotal
+pub mod CountsSame

@@ -3,3 +3,4 @@ pub mod Slices
 pub mod Sizes
 pub mod Whole
 pub mod NothingLeft
+pub mod GridTests

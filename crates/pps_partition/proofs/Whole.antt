@@ -95,12 +95,12 @@ module _ (W H : ℕ) where
   unfolding sliced_at
   sliced-stuck t s c h = parse-stuck (slicing (grid_from W H t)) s (grid_tested W H t c) h
 
-  tested-stuck : (t : TileSizes) (c : Cursor) → (c.refused ≡ 0 → ⊥) → grid_tested W H t c ≡ c
+  pub tested-stuck : (t : TileSizes) (c : Cursor) → (c.refused ≡ 0 → ⊥) → grid_tested W H t c ≡ c
   unfolding grid_tested
   tested-stuck t c h = ap (demanded _ 13) (ap (demanded _ 12) (ap (demanded _ 13) (demanded-refused _ 12 c h) ∙ demanded-refused _ 13 c h) ∙ demanded-refused _ 12 c h) ∙ demanded-refused _ 13 c h
 
   -- the tests over what was counted on the axes
-  tested-as : (t : TileSizes) (at : ℕ) → grid_tested W H t (cursor_at at) ≡ record { at = at; refused = refused (axes_tested (sizes_kept W H t).columns (sizes_kept W H t).rows) }
+  pub tested-as : (t : TileSizes) (at : ℕ) → grid_tested W H t (cursor_at at) ≡ record { at = at; refused = refused (axes_tested (sizes_kept W H t).columns (sizes_kept W H t).rows) }
   unfolding grid_tested axes_tested axis_of
   tested-as t at = tests_are _ _ _ _ at
 

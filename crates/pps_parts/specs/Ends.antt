@@ -1,5 +1,5 @@
 -- The extension bits of a set, from its flag and the cursor behind its fields.
-use Rattle.std.specs.Prelude.{ℕ, ◌≤◌, ◌≡◌, List, Bool, true, false, cond, ◌&&◌, eqb}
+use Rattle.std.specs.Prelude.{ℕ, ◌≤◌, ◌≡◌, refl, List, Bool, true, false, cond, ◌&&◌, eqb}
 use Rattle.std.proofs.Common.{arith, eq-eqb, ne_eqb}
 use Rattle.bit_reader.specs.declared.Cursor.{Cursor}
 use Rattle.bit_reader.specs.Extension.{extension_bits}
@@ -31,3 +31,12 @@ extension-inside s flag c = split (is_set flag && eqb c.refused 0)
     split : (t : Bool) → cond t (extension_bits s c.at) 0 ≤ extension_bits s c.at
     split true = omega arith
     split false = omega arith
+
+-- behind a refusal there are none
+pub extension-refused : (s : List ℕ) (flag : ℕ) (c : Cursor) → (c.refused ≡ 0 → ⊥) → 0 ≡ extension_at s flag c
+unfolding extension_at
+extension-refused s flag c e = rw (ne_eqb c.refused 0 e) (split (is_set flag))
+  where
+    split : (t : Bool) → 0 ≡ cond (t && false) (extension_bits s c.at) 0
+    split true = refl
+    split false = refl

@@ -1,2 +1,3 @@
 pub mod Triples
 pub mod SubpicIds
+pub mod TripleList

@@ -33,7 +33,7 @@ module _ (ts : List VvcQpOffsets) (i : ℕ) where
 
 -- ---- their number
 module _ (n : ℕ) (triples : List VvcQpOffsets) (six : length triples ≡ 6) where
-  triples_length : length (triples_from n triples) ≡ min n 7
+  pub triples_length : length (triples_from n triples) ≡ min n 7
   unfolding triples_from
   triples_length =
       length-map (take n (triples ++ seventh)) triple_of ∙ length-take n (triples ++ seventh) ∙ (let a = length-append triples seventh in omega (arith, a))

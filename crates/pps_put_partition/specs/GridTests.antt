@@ -26,7 +26,7 @@ use Rattle.refusal.specs.Numbers.{refused}
 use Rattle.grid_sizes.specs.declared.GridSizes.{GridSizes}
 use Rattle.refusal.specs.Answers.{with_number}
 use Rattle.grid_sizes.specs.Answers.{grid_sizes}
-use Rattle.grid_sizes.specs.Laws.{grid-number}
+use Rattle.grid_sizes.specs.Laws.{answer-number}
 use Rattle.bit_writer.specs.Stop.{play_on, on_none, on-append, on-check, on-refused, passed}
 use Rattle.pps_put_slices.specs.Sizes.{size_symbols, sizes_symbols}
 use Rattle.pps_put_partition.specs.Puts.{tiles_put, grid_put}
@@ -137,7 +137,7 @@ module _ (W H ctu : ℕ) (ws hs : List ℕ) (w : Writing) where
     where
       cases : (t : Bool) → eqb a.sink.refused 0 ≡ t → b ≡ grid_put W H ctu ws hs a
       cases true z =
-          let number : refused r ≡ number_of (first_bad (grid_checks W H ctu ws hs)) = grid-number W H ctu ws hs r f in
+          let number : refused r ≡ number_of (first_bad (grid_checks W H ctu ws hs)) = answer-number W H ctu ws hs r f in
           h ∙ ap (λ (n : ℕ). play_on a (check (eqb n 0) n)) number
           ∙ checks-first (grid_checks W H ctu ws hs) a (lit< tt, (lit< tt, (lit< tt, (lit< tt, (lit< tt, (lit< tt, (lit< tt, (lit< tt, (lit< tt, tt)))))))))
           ∙ grid-checks a (eqb-true _ _ z) (sym e)

@@ -13,7 +13,7 @@ use Rattle.refusal.proofs.Numbers.{number_above0}
 use Rattle.grid_sizes.specs.declared.GridSizes.{GridSizes}
 use Rattle.refusal.specs.Answers.{with_number}
 use Rattle.grid_sizes.specs.Answers.{grid_sizes, grid_of_sizes}
-use Rattle.grid_sizes.specs.Laws.{grid-sizes}
+use Rattle.grid_sizes.specs.Laws.{answer-sizes}
 use Rattle.pps_record.specs.declared.VvcPpsPartition.{VvcPpsPartition}
 use Rattle.syntax.specs.Elements.{or_else, is_set}
 use Rattle.syntax.proofs.Elements.{flag_if}
@@ -147,7 +147,7 @@ module _ (W H : ℕ) (p : VvcPpsPartition) (ws hs : List ℕ) (rs : List RectSli
   pub block_goes : (s : GridSizes) → with_number (Ok s) ≡ grid_sizes W H ctu ws hs → {v : Writing} → v ≡ rest_in (grid_in s) a → Put v
   unfolding refused
   block_goes s q e =
-      let held : grid_in s ≡ g = ap grid_in (grid-sizes W H ctu ws hs s q) ∙ sizes-back g.column_widths g.row_heights in
+      let held : grid_in s ≡ g = ap grid_in (answer-sizes W H ctu ws hs s q) ∙ sizes-back g.column_widths g.row_heights in
       let made : a ≡ play_on a (check (eqb 0 0) 0) = sym (ap (play_on a) (check-true true 0 refl) ∙ on_none a) in
       e ∙ ap (λ (x : Grid). rest_in x a) held ∙ ap (rest_in g) (grid-put W H ctu ws hs w (Ok s) tiles_are q made) ∙ block-put W H (block_with p ws hs rs) w
 

@@ -3,3 +3,4 @@ pub mod Entries
 pub mod Sized
 pub mod SplitPut
 pub mod MovePut
+pub mod Signed

@@ -24,7 +24,7 @@ use Rattle.syntax.specs.Syntax.{◌>>=◌, symbols_for, refusal_for}
 use Rattle.pps_syntax.specs.EntryRefusal.{Codable}
 
 -- of the numbers of 32 bits, −2147483648 has no code
-se-refuses : (v : ℤ) → SFits w32 v → refusal_in (se_symbols v) ≡ cond (delta_uncodable v) 25 0
+pub se-refuses : (v : ℤ) → SFits w32 v → refusal_in (se_symbols v) ≡ cond (delta_uncodable v) 25 0
 unfolding code_num delta_uncodable
 se-refuses (pos k) h =
     let l : k < 2147483648 = h.sfits in

@@ -5,6 +5,7 @@ use mathlib.Core.List.{List, [], ◌∷◌, ◌++◌, append-nil}
 use Rattle.std.specs.Bool.{beq}
 use Rattle.std.proofs.lemmas.List.Edits.{sets}
 use Rattle.codes.specs.Symbols.{Symbol, check, check-none}
+use Rattle.bit_writer.specs.declared.Sink.{Sink}
 use Rattle.bit_writer.specs.Writing.{Writing, sink_over, fresh}
 use Rattle.bit_writer.specs.Stop.{play_on, on_none, on_then}
 use Rattle.pps_record.specs.declared.VvcPps.{VvcPps}
@@ -79,3 +80,12 @@ module _ (r : VvcPps) (triples : List VvcQpOffsets) (t : Lent) (bytes : List ℕ
   pub set-listed : (w : Writing) {v : Writing} → v ≡ play_on w (fronts ++ (blocks ++ (backs ++ extensions))) → v ≡ play_on w set_of
   unfolding set_from partition_from
   set-listed w h = h ∙ ap (play_on w) (sym (set_parts (set_from r triples t) (extension_from r bytes)))
+
+-- ---- what it is at the start
+pub begun-nal : (nal : Bool) (o : List ℕ) {x : Writing} → nal ≡ true → x ≡ sink_over (fresh true 2) (sets o 0 (0x00 ∷ 0x81 ∷ [])) → x ≡ begun nal o
+unfolding begun
+begun-nal nal o e h = rw e h
+
+pub begun_plain : (nal : Bool) (o : List ℕ) {x : Sink} → nal ≡ false → x ≡ fresh false 0 → sink_over x o ≡ begun nal o
+unfolding begun
+begun_plain nal o e h = rw (e, h)

@@ -6,3 +6,4 @@ pub mod Lists
 pub mod WriteSteps
 pub mod Facts
 pub mod StopSteps
+pub mod ReadSteps

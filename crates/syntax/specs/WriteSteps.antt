@@ -1,8 +1,9 @@
 -- How a function that writes is shown to follow a description: what is known of its calls, one step for each, the last call first.
-use Rattle.std.specs.Prelude.{ℕ, ◌<◌, ◌≡◌, Bool}
+use Rattle.std.specs.Prelude.{ℕ, ◌<◌, ◌≡◌, Bool, true, false, List}
 use Rattle.std.proofs.Math.Path.{refl, sym, ap}
 use Rattle.std.proofs.Common.{◌∙◌}
-use Rattle.codes.specs.Symbols.{check}
+use Rattle.codes.specs.Coded.{only_if}
+use Rattle.codes.specs.Symbols.{Symbol, check}
 use Rattle.bit_writer.specs.Writing.{Writing, play, play-append, play-none}
 use Rattle.syntax.specs.Syntax.{Syntax, done, on_writing, on_reading, Placed, ◌>>=◌, symbols_for}
 
@@ -29,3 +30,10 @@ module _ {R : Type 0} where
   pub writes_past : (ok : Bool) (n : ℕ) (l : 0 < n) (k : Syntax R) (r : R) (w : Writing) → play w (symbols_for k r) ≡ play w (symbols_for (on_reading ok n l k) r)
   unfolding symbols_for
   writes_past ok n l k r w = refl
+
+-- symbols under a condition
+pub only-on : (w : Writing) (on : Bool) (xs : List Symbol) → on ≡ true → play w xs ≡ play w (only_if on xs)
+only-on w on xs e = rw e
+
+pub only-off : (w : Writing) (on : Bool) (xs : List Symbol) → on ≡ false → w ≡ play w (only_if on xs)
+only-off w on xs e = rw e (sym (play-none w))

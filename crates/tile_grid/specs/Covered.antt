@@ -1,7 +1,7 @@
 -- The plan and the cover question, from the grid question's answer.
 use Rattle.std.specs.Prelude.{ℕ, ◌-◌, ◌*◌, ◌/◌, ◌%◌, ◌≤◌, List, [], map, length, take, Ok, Err, Some, None}
 use Rattle.std.proofs.Math.Path.{◌≡◌, refl, sym, ap}
-use Rattle.std.proofs.Common.{◌∙◌, subst, arith}
+use Rattle.std.proofs.Common.{◌∙◌, arith}
 use Rattle.std.proofs.lemmas.List.{length-map}
 use Rattle.std.proofs.Math.Bool.{true, false}
 use Rattle.std.proofs.Math.Nat.{mul_comm}
@@ -9,75 +9,31 @@ use Rattle.std.proofs.Math.Seq.{take-append_seam}
 use Rattle.partition.specs.Checks.{fine, first_bad}
 use Rattle.partition.specs.Cover.{RightTiles}
 use Rattle.partition.proofs.Cover.{tiles-right}
-use Rattle.partition.specs.Entry.{asking, first_position}
-use Rattle.partition.specs.Grid.{Grid, tiles, columns, rows, max_tile_columns, max_tiles, max_slices, max_slices_minus1}
-use Rattle.partition.specs.Groups.{Group, AllFit, groups_at, plan}
+use Rattle.partition.specs.Grid.{Grid, columns, rows, max_tile_columns, max_tiles, max_slices, max_slices_minus1}
+use Rattle.partition.specs.Groups.{Group, groups_at, plan}
 use Rattle.partition.specs.Partition.{Layout, declined, unsliced, sliced}
 use Rattle.partition.specs.Sizes.{sum}
 use Rattle.partition.specs.Walk.{placed}
-use Rattle.partition.proofs.Placed.{walk-fits, walk-groups}
 use Rattle.pps_record.specs.declared.VvcPps.{VvcPps}
 use Rattle.pps_syntax.specs.BlockRefusal.{declined_with}
 use Rattle.pps_syntax.specs.FromRecord.{Lent}
+use Rattle.question_tests.specs.Questions as questions
 use Rattle.question_tests.specs.Questions.{layout_asked}
-use Rattle.question_tests.specs.Sliced.{walked}
+use Rattle.question_tests.specs.Sliced.{walked, number_of as declined-is}
 use Rattle.tile_grid.specs.declared.Cover.{Cover}
 use Rattle.tile_grid.specs.declared.placed.Placed.{Placed}
 use Rattle.tile_grid.specs.declared.TileGrid.{TileGrid}
 use Rattle.tile_grid.specs.Answers.{as_tile_grid}
 use Rattle.tile_grid.specs.GridQuestion.{sizes_of, grid_answer_of, of_record, SumsFit}
 use Rattle.tile_grid.specs.GroupsHeld.{in_front, right-held}
-use Rattle.tile_grid.specs.InGrid.{Asked, without, with_groups, asked-cases, grid, checks, proper, few-columns, few-tiles, a-column, some-tile}
+use Rattle.tile_grid.specs.Coverable.{Fitting, groups-fit}
+use Rattle.tile_grid.specs.InGrid.{Asked, stopped, absent, without, with_groups, asked-cases, grid, checks, proper}
 use Rattle.grid_sizes.specs.Answers.{grid_of_sizes}
 use Rattle.tile_grid.specs.Placed.{has_slices, AcceptedIn, placed_of}
 use Rattle.tile_grid.specs.PlanQuestion.{plan_answer_of, named, cover_named, RightAnswer}
 use Rattle.tile_grid.specs.Rects.{tiles_of, no_tiles, plan_with}
 use Rattle.tile_grid.specs.TileGroups.{groups_in, Countable}
 use Rattle.tile_sizes.specs.Padded.{zeros, table_of}
-
--- ---- layouts whose cover can be counted
-
--- Groups in a grid within the limits.
-pub record Fitting (g : Grid) (ps : List Group) : Type 0 where
-  pub fit : AllFit g ps
-  pub some : 1 ≤ columns g
-  pub wide : columns g ≤ max_tile_columns
-  pub small : tiles g ≤ max_tiles
-  pub few : length ps ≤ max_slices
-
-unfoldable pub Coverable : Layout → Type 0
-Coverable (declined n) = n ≡ 0 → ⊥
-Coverable (unsliced g) = Unit {0}
-Coverable (sliced g ps) = Fitting g ps
-
-fitting : (r : VvcPps) (t : Lent) (ps : List Group) → first_bad (checks r t) ≡ fine → r.partition.pps_num_slices_in_pic_minus1 ≤ max_slices_minus1
-    → walked (grid r t) r.partition t.slices ≡ placed ps → Fitting (grid r t) ps
-fitting r t ps ok f w =
-    record {
-      fit = walk-fits _ asking _ _ _ first_position ps (λ _. some-tile r t ok) w;
-      some = a-column r t ok;
-      wide = few-columns r t ok;
-      small = few-tiles r t ok;
-      few = omega (arith, f, walk-groups _ asking _ _ _ first_position ps (omega arith) w);
-    }
-
--- Every layout that a question comes to: none is declined with 0.
-pub asked_coverable : (r : VvcPps) (t : Lent) → Coverable (layout_asked r t)
-unfolding Coverable declined_with
-asked_coverable r t = go (layout_asked r t) refl
-  where
-    accepted : Asked r t → (n : ℕ) → layout_asked r t ≡ declined n → ⊥
-    accepted (without c g i) n e = let q : unsliced g ≡ declined n = sym i ∙ e in let y : ◌≡◌ {A = ℕ} 0 1 = cc in omega arith
-    accepted (with_groups c ok f ps w i) n e = let q : sliced (grid r t) ps ≡ declined n = sym i ∙ e in let y : ◌≡◌ {A = ℕ} 0 1 = cc in omega arith
-
-    kept : Asked r t → Coverable (layout_asked r t)
-    kept (without c g i) = rw i tt
-    kept (with_groups c ok f ps w i) = rw i (fitting r t ps ok f w)
-
-    go : (l : Layout) → layout_asked r t ≡ l → Coverable l
-    go (declined n) e = λ z. accepted (asked-cases r t (rw e (sym z))) n e
-    go (unsliced g) e = tt
-    go (sliced g ps) e = subst Coverable e (kept (asked-cases r t (rw e refl)))
 
 -- ---- a refusal
 pub plan-refused : (l : Layout) (n : ℕ) → Err n ≡ grid_answer_of l → Err n ≡ plan_answer_of l
@@ -104,17 +60,20 @@ unfolding sizes_of as_tile_grid
 grid-of g ps a e = let z : a ≡ record { sizes = grid_of_sizes g.column_widths g.row_heights } = cc in ap (λ (x : TileGrid). x.sizes) z
 
 module _ (r : VvcPps) (t : Lent) (a : TileGrid) (e : Ok a ≡ of_record r t) where
-  cases : Asked r t
-  cases = asked-cases r t (not-declined (layout_asked r t) a e)
+  -- so no test stopped it
+  not-stopped : (n : ℕ) → (n ≡ 0 → ⊥) → layout_asked r t ≡ declined n → ⊥
+  not-stopped n z i = z (sym (not-declined (layout_asked r t) a e ∙ ap declined_with i ∙ declined-is n))
 
   -- ---- no slices are coded
   module _ (off : has_slices r.partition ≡ false) where
     -- Without slices.
     unplanned : (g : Grid) × (layout_asked r t ≡ unsliced g)
-    unplanned = go cases
+    unplanned = go (asked-cases r t)
       where
         go : Asked r t → (g : Grid) × (layout_asked r t ≡ unsliced g)
-        go (without c g i) = (g, i)
+        go (stopped n z i) = absurd (not-stopped n z i)
+        go (absent c i) = (questions.no_tiles, i)
+        go (without c ok i) = (grid r t, i)
         go (with_groups c ok f ps w i) = absurd (let q : true ≡ false = sym c ∙ off in let y : ◌≡◌ {A = ℕ} 0 1 = cc in omega arith)
 
     pub plan-none : Ok (plan_with []) ≡ plan_answer_of (layout_asked r t)
@@ -135,11 +94,19 @@ module _ (r : VvcPps) (t : Lent) (a : TileGrid) (e : Ok a ≡ of_record r t) whe
       is : layout_asked r t ≡ sliced (grid r t) groups
 
     planned : Planned
-    planned = go cases
+    planned = go (asked-cases r t)
       where
+        off : {A : Type 0} → has_slices r.partition ≡ false → A
+        off c = absurd (let q : true ≡ false = sym on ∙ c in let y : ◌≡◌ {A = ℕ} 0 1 = cc in omega arith)
+
         go : Asked r t → Planned
-        go (without c g i) = absurd (let q : true ≡ false = sym on ∙ c in let y : ◌≡◌ {A = ℕ} 0 1 = cc in omega arith)
+        go (stopped n z i) = absurd (not-stopped n z i)
+        go (absent c i) = off c
+        go (without c ok i) = off c
         go (with_groups c ok f ps w i) = record { ok = ok; few = f; groups = ps; walks = w; is = i }
+
+    fitting : Fitting (grid r t) planned.groups
+    fitting = groups-fit r t planned.ok planned.few planned.groups planned.walks
 
     sizes-are : a.sizes ≡ grid_of_sizes (grid r t).column_widths (grid r t).row_heights
     sizes-are = grid-of (grid r t) planned.groups a (e ∙ ap grid_answer_of planned.is)
@@ -154,7 +121,14 @@ module _ (r : VvcPps) (t : Lent) (a : TileGrid) (e : Ok a ≡ of_record r t) whe
         ) at fit
 
     accepted : AcceptedIn a.sizes r.partition t.slices (grid r t) planned.groups
-    accepted = record { held = sizes-are; proper = proper r t planned.ok sums; few = planned.few; walks = planned.walks }
+    accepted =
+        record {
+          held = sizes-are;
+          proper = proper r t planned.ok sums;
+          few-columns = fitting.wide;
+          few = planned.few;
+          walks = planned.walks;
+        }
 
     pub some-accepted : (g : Grid) × ((ps : List Group) × AcceptedIn a.sizes r.partition t.slices g ps)
     some-accepted = (grid r t, (planned.groups, accepted))
@@ -167,26 +141,23 @@ module _ (r : VvcPps) (t : Lent) (a : TileGrid) (e : Ok a ≡ of_record r t) whe
       unfolding plan_answer_of placed_of
       plan-some = rw (x-is, planned.is)
 
-      fits : Fitting (grid r t) planned.groups
-      fits = fitting r t planned.groups planned.ok planned.few planned.walks
-
       front : take x.num_groups x.groups ≡ map tiles_of planned.groups
       unfolding placed_of
       front = rw x-is (let z : length planned.groups ≡ length (map tiles_of planned.groups) = sym (length-map planned.groups tiles_of) in rw z (in_front no_tiles (map tiles_of planned.groups)))
 
       pub groups-within : x.num_groups ≤ max_slices
       unfolding placed_of
-      groups-within = rw x-is fits.few
+      groups-within = rw x-is fitting.few
 
       pub cover-ready : Countable a.sizes.num_tile_columns a.sizes.num_tile_rows (take x.num_groups x.groups)
       unfolding grid_of_sizes
       cover-ready =
           rw (sizes-are, front)
           (record {
-            some = fits.some;
-            wide = fits.wide;
-            small = omega (arith, fits.small, mul_comm (columns (grid r t)) (rows (grid r t)));
-            few = omega (arith, fits.few, length-map planned.groups tiles_of);
+            some = fitting.some;
+            wide = fitting.wide;
+            small = omega (arith, fitting.small, mul_comm (columns (grid r t)) (rows (grid r t)));
+            few = omega (arith, fitting.few, length-map planned.groups tiles_of);
           })
 
       pub cover-some : (c : Cover) → RightTiles (a.sizes.num_tile_columns * a.sizes.num_tile_rows) (λ k. groups_at (groups_in (take x.num_groups x.groups)) (k % a.sizes.num_tile_columns) (k / a.sizes.num_tile_columns)) (named c)
@@ -194,5 +165,5 @@ module _ (r : VvcPps) (t : Lent) (a : TileGrid) (e : Ok a ≡ of_record r t) whe
       unfolding RightAnswer cover_named grid_of_sizes
       cover-some c h =
           rw planned.is
-          (tiles-right (grid r t) planned.groups fits.fit (named c)
+          (tiles-right (grid r t) planned.groups fitting.fit (named c)
           (right-held (grid r t) planned.groups (named c) (rw (sizes-are, front) at h)))

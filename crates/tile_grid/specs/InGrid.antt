@@ -7,7 +7,7 @@ use Rattle.std.proofs.Math.Bool.{true, false, cond}
 use Rattle.std.proofs.Math.Nat.{mul-pos}
 use Rattle.std.proofs.Math.Dec.{eqb}
 use Rattle.std.proofs.Math.Seq.{take-append_seam}
-use borrow.Author.Tests.{eqb-false, eq-eqb, ne_eqb}
+use borrow.Author.Tests.{eqb-true, eqb-false, eq-eqb, ne_eqb}
 use Rattle.partition.specs.Accepted.{GridFits}
 use Rattle.partition.proofs.Accepted.{grid-fits}
 use Rattle.partition.specs.Checks.{Check, Outcome, fine, refused_with, first_bad, number_of, passes, number-refused, Numbered, zero-fine}
@@ -27,7 +27,7 @@ use Rattle.pps_syntax.specs.PartitionSyntax.{coded, partition_of}
 use Rattle.pps_syntax.specs.SliceSyntax.{entry_of}
 use Rattle.pps_syntax.specs.SliceTables.{SliceTables, slices_from}
 use Rattle.question_tests.specs.Questions.{record_checks, no_tiles, picture_layout, layout_asked, slicing_checks, entries_in, sliced_in}
-use Rattle.question_tests.specs.Sliced.{Slicing, without-slices, with_slices, slicing-accepted, walked, declined-number, number_of as declined-is, first-positive}
+use Rattle.question_tests.specs.Sliced.{Slicing, without-slices, with_slices, slicing-accepted, walked, declined-number, first-positive}
 use Rattle.syntax.specs.Elements.{is_set}
 use Rattle.grid_sizes.specs.Fronts.{grid_in}
 use Rattle.grid_sizes.specs.declared.GridSizes.{GridSizes}
@@ -150,10 +150,19 @@ module _ (r : VvcPps) (t : Lent) where
     proper h =
         record {
           some-tile = some-tile;
-          few-columns = few-columns;
           column_sizes = record { few = omega (arith, few-columns); some = pos_sizes cs (in_ctbs W size); fits = h.0 };
           row_sizes = record { few = few-rows; some = pos_sizes rs (in_ctbs H size); fits = h.1 };
         }
+
+  -- ---- the layout of a picture
+
+  pub there-layout : (p.present ≡ 0 → ⊥) → picture_layout W H (partition_from p t) ≡ unless (first_bad checks) (sliced_in grid p t.slices)
+  unfolding partition_from picture_layout
+  there-layout q = rw (ne_eqb p.present 0 q) (layout_in_grid W H p t)
+
+  pub absent-layout : p.present ≡ 0 → picture_layout W H (partition_from p t) ≡ unsliced no_tiles
+  unfolding partition_from picture_layout
+  absent-layout q = rw (eq-eqb p.present 0 q)
 
   -- ---- test by test, as the code makes them
 
@@ -168,13 +177,11 @@ module _ (r : VvcPps) (t : Lent) where
     asked-picture = rw (zero-fine (record_checks r t) numbered-record fit)
 
     pub asked-absent : p.present ≡ 0 → layout_asked r t ≡ unsliced no_tiles
-    unfolding partition_from picture_layout
-    asked-absent q = asked-picture ∙ rw (eq-eqb p.present 0 q)
+    asked-absent q = asked-picture ∙ absent-layout q
 
     module _ (there : p.present ≡ 0 → ⊥) where
       asked-there : layout_asked r t ≡ unless (first_bad checks) (sliced_in grid p t.slices)
-      unfolding partition_from picture_layout
-      asked-there = asked-picture ∙ rw (ne_eqb p.present 0 there) (layout_in_grid W H p t)
+      asked-there = asked-picture ∙ there-layout there
 
       -- one of the grid's
       pub asked-grid : (n : ℕ) → Err n ≡ grid_sizes W H size cs rs → layout_asked r t ≡ declined n
@@ -224,34 +231,43 @@ module _ (r : VvcPps) (t : Lent) where
         unfolding grid_of_sizes table_of
         sums-fit w h = rw (grid-right.1, take-append_seam grid.column_widths (zeros (max_tile_columns - length grid.column_widths)), take-append_seam grid.row_heights (zeros (max_tiles - length grid.row_heights))) (grid-sums grid-right.0 w h)
 
-  -- ---- the ways of an answer that is no refusal
+  -- ---- the ways of a question, each with what it says of coded slices
 
   abbrev is_coded : Bool
   is_coded = coded p.pps_rect_slice_flag p.pps_single_slice_per_subpic_flag
 
   pub data Asked : Type 0 where
-    without : has_slices p ≡ false → (g : Grid) → layout_asked r t ≡ unsliced g → Asked
+    stopped : (n : ℕ) → (n ≡ 0 → ⊥) → layout_asked r t ≡ declined n → Asked
+    absent : has_slices p ≡ false → layout_asked r t ≡ unsliced no_tiles → Asked
+    without : has_slices p ≡ false → first_bad checks ≡ fine → layout_asked r t ≡ unsliced grid → Asked
     with_groups : has_slices p ≡ true → first_bad checks ≡ fine → p.pps_num_slices_in_pic_minus1 ≤ max_slices_minus1 → (ps : List Group) → walked grid p t.slices ≡ placed ps → layout_asked r t ≡ sliced grid ps → Asked
 
-  pub asked-cases : 0 ≡ declined_with (layout_asked r t) → Asked
-  unfolding layout_asked unless has_slices partition_from picture_layout
-  asked-cases e = tests (first_bad (record_checks r t)) refl e
+  in_the_grid : (p.present ≡ 0 → ⊥) → first_bad checks ≡ fine → layout_asked r t ≡ sliced_in grid p t.slices → Asked
+  unfolding has_slices
+  in_the_grid there ok e = go (eqb (declined_with (sliced_in grid p t.slices)) 0) refl
     where
-      there : (p.present ≡ 0 → ⊥) → picture_layout W H (partition_from p t) ≡ unless (first_bad checks) (sliced_in grid p t.slices)
-      there q = rw (ne_eqb p.present 0 q) (layout_in_grid W H p t)
+      slices : Slicing grid p t.slices → Asked
+      slices (without-slices c i) = without (rw c (and-false (is_set p.present))) ok (e ∙ i)
+      slices (with_slices c f ps w i) = with_groups (rw (c, ne_eqb p.present 0 there)) ok f ps w (e ∙ i)
 
-      slices : layout_asked r t ≡ sliced_in grid p t.slices → (p.present ≡ 0 → ⊥) → first_bad checks ≡ fine → Slicing grid p t.slices → Asked
-      slices f q o (without-slices c i) = without (rw c (and-false (is_set p.present))) grid (f ∙ i)
-      slices f q o (with_slices c m ps w i) = with_groups (rw (c, ne_eqb p.present 0 q)) o m ps w (f ∙ i)
+      go : (b : Bool) → eqb (declined_with (sliced_in grid p t.slices)) 0 ≡ b → Asked
+      go true z = slices (slicing-accepted grid p t.slices (sym (eqb-true (declined_with (sliced_in grid p t.slices)) 0 z)))
+      go false z =
+          let q = eqb-false (declined_with (sliced_in grid p t.slices)) 0 z in
+          stopped (declined_with (sliced_in grid p t.slices)) q (e ∙ declined-number (sliced_in grid p t.slices) (declined_with (sliced_in grid p t.slices)) refl q)
 
-      checked : first_bad (record_checks r t) ≡ fine → (p.present ≡ 0 → ⊥) → (o : Outcome) → first_bad checks ≡ o → 0 ≡ declined_with (unless o (sliced_in grid p t.slices)) → Asked
-      checked f q fine o z = slices (rw f (there q ∙ rw o)) q o (slicing-accepted grid p t.slices z)
-      checked f q (refused_with n) o z = absurd (first-positive checks numbered-grid n o (sym (z ∙ declined-is n)))
+  pub asked-cases : Asked
+  unfolding layout_asked unless has_slices
+  asked-cases = tests (first_bad (record_checks r t)) refl
+    where
+      checked : first_bad (record_checks r t) ≡ fine → (p.present ≡ 0 → ⊥) → (o : Outcome) → first_bad checks ≡ o → Asked
+      checked f q (refused_with n) e = stopped n (first-positive checks numbered-grid n e) (rw f (there-layout q ∙ rw e))
+      checked f q fine e = in_the_grid q e (rw f (there-layout q ∙ rw e))
 
-      presence : first_bad (record_checks r t) ≡ fine → (b : Bool) → eqb p.present 0 ≡ b → 0 ≡ declined_with (picture_layout W H (partition_from p t)) → Asked
-      presence f true b z = without (rw b) no_tiles (rw (f, b))
-      presence f false b z = let q = eqb-false p.present 0 b in checked f q (first_bad checks) refl (z ∙ ap declined_with (there q))
+      presence : first_bad (record_checks r t) ≡ fine → (b : Bool) → eqb p.present 0 ≡ b → Asked
+      presence f true b = absent (rw b) (rw f (absent-layout (eqb-true p.present 0 b)))
+      presence f false b = checked f (eqb-false p.present 0 b) (first_bad checks) refl
 
-      tests : (o : Outcome) → first_bad (record_checks r t) ≡ o → 0 ≡ declined_with (unless o (picture_layout W H (partition_from p t))) → Asked
-      tests fine f z = presence f (eqb p.present 0) refl z
-      tests (refused_with n) f z = absurd (first-positive (record_checks r t) numbered-record n f (sym (z ∙ declined-is n)))
+      tests : (o : Outcome) → first_bad (record_checks r t) ≡ o → Asked
+      tests (refused_with n) e = stopped n (first-positive (record_checks r t) numbered-record n e) (rw e)
+      tests fine e = presence e (eqb p.present 0) refl

@@ -1,5 +1,6 @@
 pub mod Answers
 pub mod AskedDemand
+pub mod Coverable
 pub mod Covered
 pub mod Down
 pub mod Edges

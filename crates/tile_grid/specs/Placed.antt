@@ -15,10 +15,9 @@ use Rattle.grid_sizes.specs.Answers.{grid_of_sizes}
 use Rattle.tile_grid.specs.Rects.{tiles_of, no_tiles, table_with, plan_with}
 use Rattle.tile_grid.specs.Starts.{ProperSizes}
 
--- The grid of a picture: a tile at least, at most 30 columns, and the sizes of its axes.
+-- The grid of a picture: a tile at least, and the sizes of its axes.
 pub record Proper (g : Grid) : Type 0 where
   pub some-tile : 0 < tiles g
-  pub few-columns : columns g ≤ max_tile_columns
   pub column_sizes : ProperSizes g.column_widths
   pub row_sizes : ProperSizes g.row_heights
 
@@ -34,5 +33,6 @@ has_slices p = is_set p.present && coded p.pps_rect_slice_flag p.pps_single_slic
 pub record AcceptedIn (s : GridSizes) (p : VvcPpsPartition) (t : SliceTables) (g : Grid) (ps : List Group) : Type 0 where
   pub held : s ≡ grid_of_sizes g.column_widths g.row_heights
   pub proper : Proper g
+  pub few-columns : columns g ≤ max_tile_columns
   pub few : p.pps_num_slices_in_pic_minus1 ≤ max_slices_minus1
   pub walks : walked g p t ≡ placed ps

@@ -5,7 +5,7 @@ use Rattle.std.proofs.Common.{sym, ◌∙◌, inl, inr, eq-or-lt_of_le, mod-lt, 
 use Rattle.std.proofs.Math.Bool.{true, false}
 use native.Mathlib.Omega.{arith}
 use Rattle.std.proofs.Math.Dec.{eqb}
-use borrow.Author.Tests.{eqb-true, eqb-false}
+use borrow.Author.Tests.{eqb-true, eqb-false, ne_eqb}
 use Rattle.partition.specs.Cover.{Cover, no_plan, whole, gap, double, RightTiles}
 
 -- Each tile of the x columns before column x, and of the y rows of column x above row y.
@@ -121,3 +121,24 @@ module _ (columns rows : ℕ) (groups : ℕ → ℕ → ℕ) where
   seen_all p whole r = λ t h. r.before (t % columns) (t / columns) (mod-lt t p) (row_inside t p h)
   seen_all p (gap t) r = r
   seen_all p (double t) r = ((λ s h. r.0.before (s % columns) (s / columns) (mod-lt s p) (row_inside s p h)), r.1, r.2)
+
+-- ---- the cases of one tile more
+pub whole-none : (t n : ℕ) → n ≡ 0 → with_tile whole t n ≡ gap t
+unfolding with_tile
+whole-none t n e = rw e
+
+pub whole-one : (t n : ℕ) → n ≡ 1 → with_tile whole t n ≡ whole
+unfolding with_tile
+whole-one t n e = rw e
+
+pub whole-several : (t n : ℕ) → (n ≡ 0 → ⊥) → (n ≡ 1 → ⊥) → with_tile whole t n ≡ double t
+unfolding with_tile
+whole-several t n f g = rw (ne_eqb n 0 f, ne_eqb n 1 g)
+
+pub double-none : (s t n : ℕ) → n ≡ 0 → with_tile (double s) t n ≡ gap t
+unfolding with_tile
+double-none s t n e = rw e
+
+pub double-some : (s t n : ℕ) → (n ≡ 0 → ⊥) → with_tile (double s) t n ≡ double s
+unfolding with_tile
+double-some s t n f = rw (ne_eqb n 0 f)
