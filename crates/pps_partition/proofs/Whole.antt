@@ -1,5 +1,5 @@
 -- The parts of the block, one behind the other, are the block as its description has it.
-use Rattle.std.specs.Prelude.{ℕ, ◌≤◌, ◌/◌, ◌≡◌, List, Bool, true, false, cond, ◌&&◌, leb, Result, Ok, Err, length, take, drop, refl}
+use Rattle.std.specs.Prelude.{ℕ, ◌≤◌, ◌/◌, ◌≡◌, List, ◌++◌, Bool, true, false, cond, ◌&&◌, leb, Result, Ok, Err, length, take, drop, refl}
 use Rattle.std.proofs.Common.{Bor, sym, ap, ◌∙◌, arith, leb-true}
 use Rattle.std.proofs.Math.Seq.{take_at, length-sets, length-take-le}
 use Rattle.std.proofs.lemmas.List.Edits.{sets}
@@ -34,6 +34,7 @@ use Rattle.pps_partition.specs.GridTests.{axes_tested, grid_tested}
 use Rattle.pps_partition.specs.PartitionAnswer.{one_block, partition_left}
 use Rattle.pps_partition.specs.Slicing.{Slicing, slicing, slicing_kept, slicing_left}
 use Rattle.pps_partition.specs.TileSizes.{TileSizes, tile_sizes, sizes_kept, grid_from}
+use Rattle.pps_partition.proofs.Fronts.{room, there_and_back}
 use Rattle.pps_partition.proofs.Sizes.{rows_few}
 use Rattle.pps_partition.proofs.Slices.{sliced-none}
 
@@ -118,8 +119,10 @@ module _ (W H : ℕ) where
     pub columns_put : (t u : List ℕ) → u ≡ sets t 0 sizes_read.value.pps_tile_column_width_minus1 → u ≡ sets t 0 (value_read (parse (partition W H)) p).pps_tile_column_width_minus1
     columns_put t u e = e ∙ ap (λ (b : PartitionBlock). sets t 0 b.pps_tile_column_width_minus1) (sym block_read)
 
-    pub rows_put : (t u : List ℕ) → u ≡ sets t 0 sizes_read.value.pps_tile_row_height_minus1 → u ≡ sets t 0 (value_read (parse (partition W H)) p).pps_tile_row_height_minus1
-    rows_put t u e = e ∙ ap (λ (b : PartitionBlock). sets t 0 b.pps_tile_row_height_minus1) (sym block_read)
+    -- the rows, read over a copy of their table's front that goes back there
+    pub rows_put : (t : List ℕ) {first read u : List ℕ} → first ≡ take (length room) t ++ drop (length t) room → read ≡ sets first 0 sizes_read.value.pps_tile_row_height_minus1
+        → u ≡ take (length t) read ++ drop (length read) t → u ≡ sets t 0 (value_read (parse (partition W H)) p).pps_tile_row_height_minus1
+    rows_put t f r e = there_and_back t f _ r (rows_few W H p.bytes.now (cursor_of p)) e ∙ ap (λ (b : PartitionBlock). sets t 0 b.pps_tile_row_height_minus1) (sym block_read)
 
     abbrev pub SlicesPut : SliceTables → SliceTables → Type 0
     SlicesPut t u = u ≡ slices_left t 0 0 (value_read (parse (partition W H)) p).rect_slices (partition_left W H p.bytes.now (cursor_of p))
