@@ -13,17 +13,13 @@ use Rattle.codes.specs.Bits.{to_bits, to_bits-zero}
 use Rattle.codes.specs.ExpGolomb.{log2_is, ue_code, ue-code-number, code_num, se_code}
 use Rattle.codes.specs.Symbols.{putting, check, checked}
 use Rattle.bit_writer.specs.Writing.{Writing, feed, feed-append, trailing_bits, finished, closed, with_refusal}
-use Rattle.codes.specs.Coded.{flag_bit, se_symbols}
+use Rattle.codes.specs.Coded.{se_symbols}
 use Rattle.bit_writer.specs.Stop.{play_on, on-bits, on_then}
 use Rattle.refusal.specs.declared.Refusal.{Refusal}
 use Rattle.refusal.specs.Numbers.{number}
 use Rattle.bit_writer.proofs.Ended.{feed_on, refused_before}
-use Rattle.bit_writer.proofs.Steps.{flag-low}
 
 module _ (w : Writing) where
-  pub flag-made : {t : Writing} (v b : ℕ) → t ≡ play_on w (putting (b % 2 ∷ [])) → b ≡ flag_bit v → t ≡ play_on w (putting (flag_bit v ∷ []))
-  flag-made v b p e = p ∙ ap (λ (k : ℕ). play_on w (putting (k ∷ []))) (ap (λ (k : ℕ). k % 2) e ∙ flag-low v)
-
   pub bits-made : {t : Writing} (n m v : ℕ) → w.sink.refused ≡ 0 → m ≡ min n 32 → t ≡ feed w (to_bits m v) → t ≡ play_on w (putting (to_bits (min n 32) v))
   bits-made n m v z e p = p ∙ ap (λ (k : ℕ). feed w (to_bits k v)) e ∙ feed_on w (to_bits (min n 32) v) z
 

@@ -48,6 +48,7 @@ pub struct Sink {
 }
 
 // A test of a group of fields, beside what is written of it.
+#[tactic(auto, unfolding(crate::specs::Stop::play_on, crate::specs::Writing::step, codes::specs::Symbols::check, codes::specs::Symbols::first))]
 pub fn test(ok: bool, refusal: Refusal) -> Result<(), Refusal>
     ensures put { (w : BitWriter) (o : List ℕ) → ended w o result ≡ play_on (written w o) (check ok (number refusal)) }
     ensures passed { OnOk result (ok ≡ true) }
@@ -83,6 +84,7 @@ impl BitWriter {
     }
 
     // One bit; only the low bit of `b` counts.
+    #[tactic(auto, unfolding(crate::specs::Stop::play_on, crate::specs::Writing::step, crate::specs::Writing::put_bit, codes::specs::Symbols::putting))]
     pub fn put_bit(&mut self, out: &mut [u8], b: u32)
         ensures { written self.new out.new ≡ play_on (written self.old out.old) (putting (b % 2 ∷ [])) }
     {
@@ -136,6 +138,7 @@ impl BitWriter {
     }
 
     // The end of the payload: an escaped one gets 03 after two final zeros.
+    #[tactic(auto, unfolding(crate::specs::Writing::finished, crate::specs::Writing::put_raws, crate::specs::Writing::put_raw, nal::specs::Escape::escape_end))]
     pub fn finish(&mut self, out: &mut [u8])
         ensures { written self.new out.new ≡ finished (written self.old out.old) }
     {

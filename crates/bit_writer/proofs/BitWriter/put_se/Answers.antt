@@ -5,8 +5,5 @@ use Rattle.codes.specs.ExpGolomb.{code_num}
 use Rattle.bit_writer.proofs.Coding.{signed-made}
 use Rattle.bit_writer.proofs.BitWriter.put_se.Goals as goal
 
-pub put_tested-requires : goal.put_tested-requires
-put_tested-requires c = c.code_num.ensures.1
-
 pub returns : goal.returns
 returns c = signed-made _ c.args.v _ (c.code_num.ensures.0 ∙ ap code_num (to_z-of_z c.ranges.v)) c.put_tested.ensures

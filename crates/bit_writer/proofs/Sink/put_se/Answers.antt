@@ -8,9 +8,6 @@ use Rattle.codes.specs.Symbols.{checked}
 use Rattle.bit_writer.specs.Writing.{sink_over, play}
 use Rattle.bit_writer.proofs.Sink.put_se.Goals as goal
 
-pub put_tested-requires : goal.put_tested-requires
-put_tested-requires c = c.code_num.ensures.1
-
 pub returns : goal.returns
 unfolding se_code
 returns c =
