@@ -94,6 +94,7 @@ impl Sink {
         self.put_tested(out, u64::from(v))
     }
 
+    #[tactic(auto, unfolding(codes::specs::ExpGolomb::se_code))]
     pub fn put_se(self, out: &mut [u8], v: i32) -> Sink
         ensures { sink_over result out.new ≡ play (sink_over self out.old) (se_symbols v) }
     {

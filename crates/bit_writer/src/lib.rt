@@ -106,6 +106,7 @@ impl BitWriter {
     }
 
     // u(n): the `n` low bits of `value`; more than 32 are taken as 32.
+    #[tactic(auto, using(crate::proofs::Ended::feed_on))]
     pub fn put_bits(&mut self, out: &mut [u8], value: u32, n: u32)
         ensures { written self.new out.new
             ≡ play_on (written self.old out.old) (putting (to_bits (min n 32) value)) }
@@ -121,6 +122,7 @@ impl BitWriter {
     }
 
     // se(v), which -2147483648 does not have.
+    #[tactic(auto, unfolding(codes::specs::ExpGolomb::se_code))]
     pub fn put_se(&mut self, out: &mut [u8], v: i32) -> Result<(), Refusal>
         ensures { ended self.new out.new result ≡ play_on (written self.old out.old) (se_symbols v) }
     {
