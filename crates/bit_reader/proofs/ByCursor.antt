@@ -12,7 +12,7 @@ use Rattle.bit_reader.specs.declared.Cursor.{Cursor}
 use Rattle.bit_reader.specs.declared.BitsRead.{BitsRead}
 use Rattle.bit_reader.specs.Reading.{cursor_at, refusal, onward, zeros_at, unless_refused, ue_after, ue_within, ue_read, se_read}
 use Rattle.bit_reader.specs.Gives.{Parsed, cursor_of, Gives, reader_at, ue_parsed, se_parsed}
-use Rattle.bit_reader.specs.Laws.{cursor_is, ue-is, ue_stays}
+use Rattle.bit_reader.specs.Laws.{cursor_is}
 
 -- a ue(v) that is refused is 0
 none-read : (s : List ℕ) (c : Cursor) → ((ue_read s c).next.refused ≡ 0 → ⊥) → (ue_read s c).value ≡ 0
@@ -35,11 +35,6 @@ none-read s c = outer (eqb c.refused 0)
         → (cond t (after (ltb z 32)) (record { value = 0; next = c })).value ≡ 0
     outer true h = inner (ltb z 32) h
     outer false h = refl
-
--- behind a refusal
-pub se_stays : (s : List ℕ) (c : Cursor) → (c.refused ≡ 0 → ⊥) → record { value = pos 0; next = c } ≡ se_read s c
-unfolding se_read signed_of
-se_stays s c h = ap (λ (r : BitsRead). record { value = signed_of r.value; next = r.next }) (ue_stays s c 32 h ∙ sym (ue-is s c))
 
 -- a reader that began at a cursor
 module _ (s : Bor (List ℕ)) (c : Cursor) {p q : BitReader} (h : c.refused ≡ 0) (b : p ≡ reader_at s c) {A : Type 0} {read : List ℕ → Cursor → Parsed A} {x : Result A Refusal}

@@ -34,6 +34,7 @@ impl Cursor {
 }
 
 // u(n); more than 32 bits are read as 32.
+#[tactic(auto, unfolding(crate::specs::Reading::u_read, crate::specs::Reading::unless_refused))]
 pub fn u(s: &[u8], c: Cursor, n: u32) -> BitsRead
     ensures { result ≡ u_read s.now c (min n 32) }
 {
@@ -49,6 +50,7 @@ pub fn u(s: &[u8], c: Cursor, n: u32) -> BitsRead
 }
 
 // ue(v).
+#[tactic(auto, unfolding(crate::specs::Reading::ue_read, crate::specs::Reading::ue_within, crate::specs::Reading::unless_refused))]
 pub fn ue(s: &[u8], c: Cursor) -> BitsRead
     ensures { result ≡ ue_read s.now c }
 {
@@ -64,6 +66,7 @@ pub fn ue(s: &[u8], c: Cursor) -> BitsRead
 }
 
 // se(v).
+#[tactic(auto, unfolding(crate::specs::Reading::se_read, crate::specs::Reading::ue_read, crate::specs::Reading::ue_within, crate::specs::Reading::unless_refused, codes::specs::ExpGolomb::signed_of))]
 pub fn se(s: &[u8], c: Cursor) -> SignedRead
     ensures { result ≡ se_read s.now c }
 {
@@ -79,6 +82,7 @@ pub fn se(s: &[u8], c: Cursor) -> SignedRead
 }
 
 // rbsp_trailing_bits().
+#[tactic(auto, unfolding(crate::specs::Reading::trailing_read))]
 pub fn rbsp_trailing_bits(s: &[u8], c: Cursor) -> Cursor
     ensures { result ≡ trailing_read s.now c }
 {

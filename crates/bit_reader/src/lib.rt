@@ -54,6 +54,7 @@ pub fn bit_count(s: &[u8]) -> usize
 }
 
 // Bit `at`, 0 past the end.
+#[tactic(auto, unfolding(codes::specs::Bytes::bit_at))]
 pub fn bit_at(s: &[u8], at: usize) -> u8
     ensures { result ≡ bit_at s.now at }
 {
@@ -67,6 +68,7 @@ pub fn bit_at(s: &[u8], at: usize) -> u8
 }
 
 // `n` bits on, and no further than the end.
+#[tactic(auto, unfolding(crate::specs::Reading::onward))]
 fn move_on(s: &[u8], at: usize, n: usize) -> usize
     ensures { result ≡ onward s.now at n }
 {
@@ -112,6 +114,7 @@ fn zeros_from(s: &[u8], at: usize) -> usize
 }
 
 // The signed value of a code number.
+#[tactic(auto, unfolding(codes::specs::ExpGolomb::signed_of))]
 fn signed_of(k: u32) -> i32
     requires { k < 4294967295 }
     ensures { result ≡ signed_of k }
@@ -152,6 +155,7 @@ pub fn more_rbsp_data(s: &[u8], at: usize) -> bool
 
 impl<'a> BitReader<'a> {
     // u(n); more than 32 bits are read as 32.
+    #[tactic(auto, using(codes::specs::Bytes::bits_past), unfolding(crate::specs::Reading::u_read, crate::specs::Reading::unless_refused, crate::specs::Reading::onward, codes::specs::Bytes::bits_at, refusal::specs::Numbers::refused))]
     pub fn u(&mut self, n: u32) -> u32
         ensures { Gives (u_parsed (min n 32)) self.old self.new (Ok result) }
     {
@@ -174,6 +178,7 @@ impl<'a> BitReader<'a> {
     }
 
     // u(1), by itself for speed.
+    #[tactic(auto, using(codes::specs::Bytes::bit_past), unfolding(crate::specs::Reading::u_read, crate::specs::Reading::unless_refused, crate::specs::Reading::onward, codes::specs::Bytes::bits_at, refusal::specs::Numbers::refused))]
     pub fn flag(&mut self) -> u8
         ensures { Gives (u_parsed 1) self.old self.new (Ok result) }
     {
@@ -187,6 +192,7 @@ impl<'a> BitReader<'a> {
     }
 
     // ue(v).
+    #[tactic(auto, unfolding(crate::specs::Reading::ue_read, crate::specs::Reading::ue_within, crate::specs::Reading::ue_after, crate::specs::Reading::unless_refused, refusal::specs::Numbers::refused, refusal::specs::Numbers::number))]
     pub fn ue(&mut self) -> Result<u32, Refusal>
         ensures { Gives ue_parsed self.old self.new result }
     {
@@ -213,6 +219,7 @@ impl<'a> BitReader<'a> {
     }
 
     // rbsp_trailing_bits(): a 1, then zeros up to the next byte.
+    #[tactic(auto, unfolding(crate::specs::Reading::trailing_read, refusal::specs::Numbers::refused, refusal::specs::Numbers::number))]
     pub fn rbsp_trailing_bits(&mut self) -> Result<(), Refusal>
         ensures { Gives trailing_parsed self.old self.new result }
     {

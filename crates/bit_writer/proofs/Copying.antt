@@ -25,9 +25,6 @@ put-made w x p q h e f d =
     ap₂ (λ (u : Writing) (k : ℕ). holding u (x % k) n) (d ∙ ap (λ (k : ℕ). put_byte w ((w.sink.cur * k + x / 2 ^ n) % 256)) e) f
     ∙ sym (eight_bits w x h)
 
-pub copy_starts : (s : List ℕ) (w : Writing) (from count : ℕ) → feed w (bit_list s (from / 8 * 8 + from % 8) count) ≡ feed w (bit_list s from count)
-copy_starts s w from count = ap (λ (k : ℕ). feed w (bit_list s k count)) (omega arith)
-
 -- one turn, and the bits that are left after the last
 module _ (s : List ℕ) (w : Writing) (i r left a b x : ℕ) (h : r < 8) (p : a ≡ bits_at s (i * 8) 8) (q : b ≡ bits_at s ((i + 1) * 8) 8)
     (e : x ≡ (a * 256 + b) / 2 ^ (8 - r) % 256) where

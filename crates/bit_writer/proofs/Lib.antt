@@ -3,5 +3,4 @@ pub mod Chunked
 pub mod Ended
 pub mod Coding
 pub mod Copying
-pub mod Signed
 pub mod ByValue

@@ -94,6 +94,7 @@ impl Sink {
         self.put_tested(out, u64::from(v))
     }
 
+    #[tactic(auto, unfolding(codes::specs::ExpGolomb::se_code))]
     pub fn put_se(self, out: &mut [u8], v: i32) -> Sink
         ensures { sink_over result out.new ≡ play (sink_over self out.old) (se_symbols v) }
     {
@@ -108,8 +109,8 @@ impl Sink {
         Sink::of(w, self.refused)
     }
 
-    // What a run over an empty output says of an output with that much room: the number of bytes; or the number of the
-    // refusal, 29 if they need more.
+    // What a run says of an output with that much room: the number of bytes; or that of the refusal, 29 if they need more.
+    #[tactic(auto, unfolding(crate::specs::Answers::answer_of, crate::specs::Answers::answered, refusal::specs::Numbers::number))]
     pub fn answer(self, room: usize) -> Result<usize, u8>
         ensures { result ≡ answer_of self room }
     {

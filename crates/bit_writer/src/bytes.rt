@@ -11,6 +11,7 @@ const FARTHEST: usize = 1 << 63;
 
 impl BitWriter {
     // One byte as it is.
+    #[tactic(auto, unfolding(crate::specs::Writing::put_raw))]
     pub(crate) fn put_raw(&mut self, out: &mut [u8], b: u8)
         ensures { written self.new out.new ≡ put_raw (written self.old out.old) b }
     {
@@ -20,6 +21,7 @@ impl BitWriter {
     }
 
     // A byte that is whole.
+    #[tactic(auto, unfolding(crate::specs::Writing::put_byte, crate::specs::Writing::put_raws, crate::specs::Writing::coded, crate::specs::Writing::coded_run, nal::specs::Escape::escape_byte, nal::specs::Escape::escape_run))]
     pub(crate) fn put_byte(&mut self, out: &mut [u8], b: u8)
         ensures { written self.new out.new ≡ put_byte (written self.old out.old) b }
     {

@@ -24,6 +24,7 @@ impl BitWriter {
     }
 
     // The `n` low bits of `value`, by as many as fit into a byte.
+    #[tactic(auto, using(crate::specs::Chunks::chunk_first), unfolding(codes::specs::Bits::to_bits, crate::specs::Writing::feed))]
     pub(crate) fn put_word(&mut self, out: &mut [u8], value: u64, n: u32)
         requires { n ≤ 64 }
         ensures { written self.new out.new ≡ feed (written self.old out.old) (to_bits n value) }

@@ -10,6 +10,7 @@ ghost use Rattle.bit_writer.specs.Written.{written};
 use super::BitWriter;
 
 // Byte `i` as bits are counted, 0 past the end.
+#[tactic(auto, using(codes::specs::Bytes::bits_past))]
 fn byte_at(src: &[u8], i: usize) -> u8
     ensures { result ≡ bits_at src.now (i * 8) 8 }
 {

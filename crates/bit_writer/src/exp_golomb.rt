@@ -45,6 +45,7 @@ pub fn has_code(k: u64) -> bool
 }
 
 // The code number of a signed value.
+#[tactic(auto, unfolding(codes::specs::ExpGolomb::code_num))]
 pub fn code_num(v: i32) -> u64
     ensures { (result ≡ code_num v) × (result ≤ 4294967296) }
 {

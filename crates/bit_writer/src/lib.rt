@@ -48,6 +48,7 @@ pub struct Sink {
 }
 
 // A test of a group of fields, beside what is written of it.
+#[tactic(auto, unfolding(crate::specs::Stop::play_on, crate::specs::Writing::step, codes::specs::Symbols::check, codes::specs::Symbols::first))]
 pub fn test(ok: bool, refusal: Refusal) -> Result<(), Refusal>
     ensures put { (w : BitWriter) (o : List ℕ) → ended w o result ≡ play_on (written w o) (check ok (number refusal)) }
     ensures passed { OnOk result (ok ≡ true) }
@@ -83,6 +84,7 @@ impl BitWriter {
     }
 
     // One bit; only the low bit of `b` counts.
+    #[tactic(auto, unfolding(crate::specs::Stop::play_on, crate::specs::Writing::step, crate::specs::Writing::put_bit, codes::specs::Symbols::putting))]
     pub fn put_bit(&mut self, out: &mut [u8], b: u32)
         ensures { written self.new out.new ≡ play_on (written self.old out.old) (putting (b % 2 ∷ [])) }
     {
@@ -104,6 +106,7 @@ impl BitWriter {
     }
 
     // u(n): the `n` low bits of `value`; more than 32 are taken as 32.
+    #[tactic(auto, using(crate::proofs::Ended::feed_on))]
     pub fn put_bits(&mut self, out: &mut [u8], value: u32, n: u32)
         ensures { written self.new out.new
             ≡ play_on (written self.old out.old) (putting (to_bits (min n 32) value)) }
@@ -119,6 +122,7 @@ impl BitWriter {
     }
 
     // se(v), which -2147483648 does not have.
+    #[tactic(auto, unfolding(codes::specs::ExpGolomb::se_code))]
     pub fn put_se(&mut self, out: &mut [u8], v: i32) -> Result<(), Refusal>
         ensures { ended self.new out.new result ≡ play_on (written self.old out.old) (se_symbols v) }
     {
@@ -136,6 +140,7 @@ impl BitWriter {
     }
 
     // The end of the payload: an escaped one gets 03 after two final zeros.
+    #[tactic(auto, unfolding(crate::specs::Writing::finished, crate::specs::Writing::put_raws, crate::specs::Writing::put_raw, nal::specs::Escape::escape_end))]
     pub fn finish(&mut self, out: &mut [u8])
         ensures { written self.new out.new ≡ finished (written self.old out.old) }
     {

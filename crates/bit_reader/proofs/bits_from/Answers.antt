@@ -1,7 +1,7 @@
 use Prim.Native.Nat.{◌+◌}
-use mathlib.Core.Path.{sym, ap, ◌∙◌}
+use mathlib.Core.Path.{sym}
 use native.Mathlib.Omega.{arith}
-use Rattle.codes.specs.Bytes.{bits_at, bit-lt, bits_none, bits-step}
+use Rattle.codes.specs.Bytes.{bit-lt, bits_none, bits-step}
 use Rattle.bit_reader.proofs.Words.{bits-room}
 use Rattle.bit_reader.proofs.bits_from.Goals as goal
 
@@ -16,6 +16,3 @@ overflow_add-value c = omega (arith, bits-room c.args.s.now c.args.at c.loop-i.i
 
 pub loop-i-preserved : goal.loop-i-preserved
 loop-i-preserved c = omega (arith, bits-step c.args.s.now c.args.at c.loop-i.i)
-
-pub returns : goal.returns
-returns c = c.loop-i.invariant.1 ∙ ap (bits_at _ _) (omega arith)

@@ -1,12 +1,8 @@
 use Prim.Native.Nat.{◌+◌, ◌-◌}
 use mathlib.Core.Path.{sym, ◌∙◌}
-use native.Mathlib.Nat.{zero-add, add-zero}
 use native.Mathlib.Omega.{arith}
 use Rattle.bit_reader.specs.Laws.{stops_past, stops-one, stops-not, zeros-none, zeros-out, zeros-count}
 use Rattle.bit_reader.proofs.zeros_from.Goals as goal
-
-pub loop-k-init : goal.loop-k-init
-loop-k-init c = (omega arith, rw (zero-add, add-zero))
 
 pub returns-then-p-end : goal.returns-then-p-end
 returns-then-p-end c = let p = c.args.at + c.loop-k.k in

@@ -1,5 +1,5 @@
 use Prim.Native.Nat.{ℕ, ◌+◌, ◌*◌, ◌-◌, ◌/◌, ◌%◌}
-use mathlib.Core.Path.{◌≡◌, refl, ap, ap₂, ◌∙◌}
+use mathlib.Core.Path.{◌≡◌, refl, ap, ◌∙◌}
 use native.Mathlib.Omega.{arith}
 use Rattle.codes.specs.Bytes.{bits_at, bit_list}
 use Rattle.bit_writer.specs.Writing.{feed}
@@ -7,12 +7,6 @@ use Rattle.bit_writer.specs.Written.{written}
 use Rattle.bit_writer.proofs.Ended.{feed_on}
 use Rattle.bit_writer.proofs.Copying.{copy_turn, copy_ends}
 use Rattle.bit_writer.proofs.BitWriter.put_copy.Goals as goal
-
-pub loop-i-init : goal.loop-i-init
-loop-i-init c =
-    let first : c.args.from / 8 * 8 + c.args.from % 8 ≡ c.args.from = omega arith in
-    let all : (c.args.from / 8 + c.args.count / 8 - c.args.from / 8) * 8 + c.args.count % 8 ≡ c.args.count = omega arith in
-    (c.byte_at-a.ensures, ap₂ (λ (m n : ℕ). feed (written c.args.self.now c.args.out.now) (bit_list c.args.src.now m n)) first all)
 
 pub loop-i-preserved : goal.loop-i-preserved
 loop-i-preserved c = (
