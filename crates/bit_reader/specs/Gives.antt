@@ -1,5 +1,6 @@
 -- What a reader gives, as code has it: a value or a refusal, and the place behind it. The definitions have a cursor in its stead.
 use Rattle.std.specs.Prelude.{ℕ, ◌≡◌, List, Result, IfOk, Bool, ℤ}
+use Rattle.std.proofs.Common.{Bor}
 use Rattle.refusal.specs.declared.Refusal.{Refusal}
 use Rattle.refusal.specs.Numbers.{refused}
 use Rattle.bit_reader.specs.declared.BitReader.{BitReader}
@@ -25,6 +26,10 @@ signed_parsed r = parsed r.value r.next
 -- where a reader stands
 abbrev pub cursor_of : BitReader → Cursor
 cursor_of r = cursor_at r.bit_pos
+
+-- a reader that begins at a cursor
+abbrev pub reader_at : Bor (List ℕ) → Cursor → BitReader
+reader_at s c = record { bytes = s; bit_pos = c.at }
 
 -- A reader went from one place to another over the same bytes. It came to what `read` says of them: to its value, or to its refusal.
 pub record Gives {A : Type 0} (read : List ℕ → Cursor → Parsed A) (from to : BitReader) (x : Result A Refusal) : Type 0 where

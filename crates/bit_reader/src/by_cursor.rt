@@ -1,8 +1,37 @@
 // The readers over a cursor by value, as C calls them. A refusal sticks: behind it they give 0 and leave the cursor.
 ghost use Rattle.std.specs.Prelude.{◌≡◌, min};
+ghost use Rattle.refusal.specs.Numbers.{refused};
 ghost use Rattle.bit_reader.specs.Reading.{u_read, ue_read, se_read, trailing_read};
+ghost use Rattle.bit_reader.specs.Gives.{reader_at};
 
 use super::{BitReader, BitsRead, Cursor, SignedRead};
+use refusal::Refusal;
+
+impl Cursor {
+    fn reader<'a>(self, s: &'a [u8]) -> BitReader<'a>
+        ensures { result ≡ reader_at s.entry self }
+    {
+        BitReader {
+            bytes: s,
+            bit_pos: self.at,
+        }
+    }
+
+    // Where a reader stands, with what it refused.
+    #[tactic(auto, unfolding(refusal::specs::Numbers::refused))]
+    fn behind<T: Copy>(r: BitReader, read: Result<T, Refusal>) -> Cursor
+        ensures { result ≡ record { at = r.entry.bit_pos; refused = refused read } }
+    {
+        let refused = match read {
+            Ok(_) => 0,
+            Err(e) => e.number(),
+        };
+        Cursor {
+            at: r.bit_pos,
+            refused,
+        }
+    }
+}
 
 // u(n); more than 32 bits are read as 32.
 pub fn u(s: &[u8], c: Cursor, n: u32) -> BitsRead
@@ -11,17 +40,11 @@ pub fn u(s: &[u8], c: Cursor, n: u32) -> BitsRead
     if c.refused != 0 {
         return BitsRead { value: 0, next: c };
     }
-    let mut r = BitReader {
-        bytes: s,
-        bit_pos: c.at,
-    };
+    let mut r = c.reader(s);
     let value = r.u(n);
     BitsRead {
         value,
-        next: Cursor {
-            at: r.bit_pos,
-            refused: 0,
-        },
+        next: Cursor::behind(r, Ok(value)),
     }
 }
 
@@ -32,25 +55,11 @@ pub fn ue(s: &[u8], c: Cursor) -> BitsRead
     if c.refused != 0 {
         return BitsRead { value: 0, next: c };
     }
-    let mut r = BitReader {
-        bytes: s,
-        bit_pos: c.at,
-    };
-    match r.ue() {
-        Ok(value) => BitsRead {
-            value,
-            next: Cursor {
-                at: r.bit_pos,
-                refused: 0,
-            },
-        },
-        Err(e) => BitsRead {
-            value: 0,
-            next: Cursor {
-                at: r.bit_pos,
-                refused: e.number(),
-            },
-        },
+    let mut r = c.reader(s);
+    let read = r.ue();
+    BitsRead {
+        value: read.unwrap_or(0),
+        next: Cursor::behind(r, read),
     }
 }
 
@@ -61,25 +70,11 @@ pub fn se(s: &[u8], c: Cursor) -> SignedRead
     if c.refused != 0 {
         return SignedRead { value: 0, next: c };
     }
-    let mut r = BitReader {
-        bytes: s,
-        bit_pos: c.at,
-    };
-    match r.se() {
-        Ok(value) => SignedRead {
-            value,
-            next: Cursor {
-                at: r.bit_pos,
-                refused: 0,
-            },
-        },
-        Err(e) => SignedRead {
-            value: 0,
-            next: Cursor {
-                at: r.bit_pos,
-                refused: e.number(),
-            },
-        },
+    let mut r = c.reader(s);
+    let read = r.se();
+    SignedRead {
+        value: read.unwrap_or(0),
+        next: Cursor::behind(r, read),
     }
 }
 
@@ -90,18 +85,7 @@ pub fn rbsp_trailing_bits(s: &[u8], c: Cursor) -> Cursor
     if c.refused != 0 {
         return c;
     }
-    let mut r = BitReader {
-        bytes: s,
-        bit_pos: c.at,
-    };
-    match r.rbsp_trailing_bits() {
-        Ok(()) => Cursor {
-            at: r.bit_pos,
-            refused: 0,
-        },
-        Err(e) => Cursor {
-            at: r.bit_pos,
-            refused: e.number(),
-        },
-    }
+    let mut r = c.reader(s);
+    let read = r.rbsp_trailing_bits();
+    Cursor::behind(r, read)
 }

@@ -123,21 +123,22 @@ fn signed_of(k: u32) -> i32
 }
 
 // How many bits are taken while more_rbsp_data() holds: those up to the last 1 bit but one, found by one scan from the
-// end.
+// end, which looks at the bits of only those bytes that are not 0.
 pub fn extension_bits(s: &[u8], at: usize) -> usize
     ensures { result ≡ extension_bits s.now at }
 {
-    let end = bit_count(s);
-    if at >= end {
-        return 0;
-    }
     let mut seen: u8 = 0;
-    for p in (at..end).rev() {
-        let b = bit_at(s, p);
-        if seen + b == 2 {
-            return p + 1 - at;
+    for i in (at / 8..bit_count(s) / 8).rev() {
+        if s[i] == 0 {
+            continue;
         }
-        seen += b;
+        for p in (at.max(i * 8)..i * 8 + 8).rev() {
+            let b = bit_at(s, p);
+            if seen + b == 2 {
+                return p + 1 - at;
+            }
+            seen += b;
+        }
     }
     0
 }

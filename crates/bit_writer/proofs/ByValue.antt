@@ -1,11 +1,11 @@
 -- A sink is a writer beside a refusal, which bits do not look at.
 use Rattle.std.specs.Prelude.{ℕ, List, [], ◌++◌, Bool, true, false, cond, ◌≡◌, refl}
 use Rattle.std.proofs.Common.{ne_eqb, sym, ap, ap₂, ◌∙◌}
-use Rattle.codes.specs.Symbols.{putting, check, checked, first, refusal_in, bits_in, refusal-append, bits_in_append, refusal-check, bits_in_check, refusal-putting, bits_in_putting, first-left, first-right}
+use Rattle.codes.specs.Symbols.{putting, check, checked, first, refusal-append, bits_in_append, refusal-check, bits_in_check, refusal-putting, bits_in_putting, first-left, first-right}
 use Rattle.nal.specs.Escape.{escape_end}
 use Rattle.bit_writer.specs.declared.BitWriter.{BitWriter}
 use Rattle.bit_writer.specs.declared.Sink.{Sink}
-use Rattle.bit_writer.specs.Writing.{Writing, sink_over, with_refusal, put_raws, feed, play, play-bits, trailing_bits, finished, closed}
+use Rattle.bit_writer.specs.Writing.{Writing, sink_over, with_refusal, feed, play, play-bits, trailing_bits, finished, closed}
 use Rattle.bit_writer.specs.Played.{raws_refusal, feed-refusal, played}
 use Rattle.bit_writer.specs.Stop.{play_on}
 use Rattle.bit_writer.specs.Written.{sink_of, writer_of, written}

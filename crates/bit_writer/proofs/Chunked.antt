@@ -1,12 +1,10 @@
 -- How a u64 computes the bits of a byte.
-use Prim.Native.Nat.{ℕ, ◌+◌, ◌-◌, ◌*◌, ◌%◌, ◌^◌, ◌≤◌, ◌<◌}
-use native.Mathlib.Nat.{mul-le-mul_right, le_of_lt, mod-lt, one-mul}
+use Prim.Native.Nat.{ℕ, ◌+◌, ◌*◌, ◌%◌, ◌^◌, ◌≤◌, ◌<◌}
+use native.Mathlib.Nat.{one-mul}
 use native.Mathlib.Omega.{arith}
 use mathlib.Core.Path.{◌≡◌, sym, ◌∙◌}
-use lib.Count.{count_leading_zeros, leading_top}
-use lib.Pow.{pow_pos, pow_mono, shl_exact}
+use lib.Pow.{shl_exact}
 use Rattle.codes.specs.Bits.{to_bits}
-use Rattle.codes.specs.ExpGolomb.{floor_log2, log2_is}
 use Rattle.bit_writer.specs.Writing.{Writing, place, holding, put_byte, feed}
 use Rattle.bit_writer.specs.Chunks.{chunk_open, chunk_whole}
 
@@ -20,9 +18,3 @@ module _ (w : Writing) (m p x : ℕ) (e : p ≡ 2 ^ m) where
 
   pub made-whole : {t : Writing} → place w.sink + m ≤ 8 → 8 ≤ place w.sink + m → t ≡ put_byte w ((w.sink.cur * p + x % p) % 256) → t ≡ feed w (to_bits m x)
   made-whole h l d = d ∙ rw e (sym (chunk_whole w m x (omega arith)))
-
--- the place of the highest 1, by the leading zeros
-pub top-place : (n : ℕ) → 0 < n → n < 2 ^ 64 → (count_leading_zeros 64 n ≤ 63) × (63 - count_leading_zeros 64 n ≡ floor_log2 n)
-top-place n p h =
-    let t = leading_top 64 n p h in
-    (omega (arith, t.1), omega (arith, t.1, log2_is n t.0 t.2 t.3))

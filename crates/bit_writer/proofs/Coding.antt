@@ -1,17 +1,18 @@
 -- What the functions for u(n), ue(v), se(v) and the trailing bits make, from what the functions under them make.
-use Prim.Native.Nat.{ℕ, suc, ◌+◌, ◌-◌, ◌*◌, ◌%◌, ◌≤◌, ◌<◌, min}
+use Prim.Native.Nat.{ℕ, suc, ◌+◌, ◌-◌, ◌*◌, ◌%◌, ◌^◌, ◌≤◌, ◌<◌, min}
 use native.Mathlib.Numerals.{add-one}
 use native.Mathlib.Omega.{arith}
-use mathlib.Core.Bool.{Bool, true}
+use Rattle.std.proofs.Common.{pow-suc}
+use mathlib.Core.Bool.{Bool}
 use mathlib.Core.List.{List, [], ◌∷◌, ◌++◌}
 use mathlib.Core.Path.{◌≡◌, sym, ap, ◌∙◌}
 use lib.Dec.{ltb}
 use lib.IntN.{ℤ}
 use lib.ListN.{replicate}
 use Rattle.codes.specs.Bits.{to_bits, to_bits-zero}
-use Rattle.codes.specs.ExpGolomb.{floor_log2, log2_between, log2_below, ue_code, ue-code-number, code_num, se_code}
+use Rattle.codes.specs.ExpGolomb.{log2_is, ue_code, ue-code-number, code_num, se_code}
 use Rattle.codes.specs.Symbols.{putting, check, checked}
-use Rattle.bit_writer.specs.Writing.{Writing, feed, feed-append, play, play-append, play-bits, trailing_bits, finished, closed, with_refusal}
+use Rattle.bit_writer.specs.Writing.{Writing, feed, feed-append, trailing_bits, finished, closed, with_refusal}
 use Rattle.codes.specs.Coded.{flag_bit, se_symbols}
 use Rattle.bit_writer.specs.Stop.{play_on, on-bits, on_then}
 use Rattle.refusal.specs.declared.Refusal.{Refusal}
@@ -27,21 +28,23 @@ module _ (w : Writing) where
   bits-made n m v z e p = p ∙ ap (λ (k : ℕ). feed w (to_bits k v)) e ∙ feed_on w (to_bits (min n 32) v) z
 
   -- ---- ue(v)
-  pub code-short : {t : Writing} (k z : ℕ) → z ≡ floor_log2 (k + 1) → t ≡ feed w (to_bits (2 * z + 1) (k + 1)) → t ≡ feed w (ue_code k)
-  code-short k z e p =
-      let b = log2_between (k + 1) (omega arith) in
-      let f = floor_log2 (k + 1) in
-      let n : 2 * z + 1 ≡ f + suc f = omega arith in
-      p ∙ ap (λ (m : ℕ). feed w (to_bits m (k + 1))) n ∙ ap (feed w) (sym (ue-code-number f k b.0 b.1))
+  module _ (k z : ℕ) (a : 2 ^ z ≤ k + 1) (b : k + 1 < 2 * 2 ^ z) where
+    below : k + 1 < 2 ^ suc z
+    below = omega (arith, b, pow-suc 2 z)
 
-  pub code-long : {t u : Writing} (k z : ℕ) → z ≡ floor_log2 (k + 1) → t ≡ feed w (to_bits z 0) → u ≡ feed t (to_bits (z + 1) (k + 1)) → u ≡ feed w (ue_code k)
-  unfolding ue_code
-  code-long {t} k z e p q =
-      let r = to_bits (z + 1) (k + 1) in
-      q ∙ ap (λ (x : Writing). feed x r) p ∙ sym (feed-append w (to_bits z 0) r)
-      ∙ ap (λ (l : List ℕ). feed w (l ++ r)) (to_bits-zero z)
-      ∙ ap (λ (n : ℕ). feed w (replicate z 0 ++ to_bits n (k + 1))) (add-one z)
-      ∙ ap (λ (n : ℕ). feed w (replicate n 0 ++ to_bits (suc n) (k + 1))) e
+    pub code-short : {t : Writing} → t ≡ feed w (to_bits (2 * z + 1) (k + 1)) → t ≡ feed w (ue_code k)
+    code-short p =
+        let n : 2 * z + 1 ≡ z + suc z = omega arith in
+        p ∙ ap (λ (m : ℕ). feed w (to_bits m (k + 1))) n ∙ ap (feed w) (sym (ue-code-number z k a below))
+
+    pub code-long : {t u : Writing} → t ≡ feed w (to_bits z 0) → u ≡ feed t (to_bits (z + 1) (k + 1)) → u ≡ feed w (ue_code k)
+    unfolding ue_code
+    code-long {t} p q =
+        let r = to_bits (z + 1) (k + 1) in
+        q ∙ ap (λ (x : Writing). feed x r) p ∙ sym (feed-append w (to_bits z 0) r)
+        ∙ ap (λ (l : List ℕ). feed w (l ++ r)) (to_bits-zero z)
+        ∙ ap (λ (n : ℕ). feed w (replicate z 0 ++ to_bits n (k + 1))) (add-one z)
+        ∙ ap (λ (n : ℕ). feed w (replicate n 0 ++ to_bits (suc n) (k + 1))) (sym (log2_is (k + 1) z a below))
 
   -- behind its test
   pub tested-failed : (ok : Bool) (n : ℕ) (bs : List ℕ) (v : Writing) (e : Refusal) → with_refusal v (number e) ≡ play_on w (check ok n) → with_refusal v (number e) ≡ play_on w (checked ok n bs)
@@ -67,7 +70,3 @@ module _ (w : Writing) where
   pub closed-made : {t u : Writing} → w.sink.refused ≡ 0 → t ≡ play_on w (putting (trailing_bits w.sink.have)) → u ≡ finished t → u ≡ closed w
   unfolding closed
   closed-made z p q = q ∙ ap finished (p ∙ on-bits w (trailing_bits w.sink.have) z)
-
--- the code numbers that reach here have at most 33 bits
-pub code-width : (k : ℕ) → k ≤ 4294967296 → floor_log2 (k + 1) < 33
-code-width k h = log2_below (k + 1) 33 (omega arith) (omega arith)

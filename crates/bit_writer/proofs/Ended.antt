@@ -1,16 +1,15 @@
 -- Ways out of functions that may refuse, and of those that call them.
-use Rattle.std.specs.Prelude.{ℕ, List, ◌++◌, Result, Err, ◌≡◌, refl, eqb}
+use Rattle.std.specs.Prelude.{ℕ, List, ◌++◌, Result, ◌≡◌}
 use Rattle.std.specs.Result.{IsErrAnd}
-use Rattle.std.proofs.Common.{sym, ap, ◌∙◌, arith}
+use Rattle.std.proofs.Common.{sym, ◌∙◌, arith}
 use Rattle.std.proofs.lemmas.Result.{err_from_is_err_and}
-use Rattle.codes.specs.Symbols.{Symbol, putting, first, first-left, refusal_in}
+use Rattle.codes.specs.Symbols.{Symbol, putting}
 use Rattle.refusal.specs.declared.Refusal.{Refusal}
 use Rattle.refusal.specs.Numbers.{number}
 use Rattle.refusal.proofs.Numbers.{number_above0}
 use Rattle.bit_writer.specs.declared.BitWriter.{BitWriter}
-use Rattle.bit_writer.specs.Writing.{Writing, with_refusal, feed, play, play-bits}
-use Rattle.bit_writer.specs.Stop.{up_to_refusal, play_on, on-bits, on_then, on-refused, on-play, same-refusal, unrefused-whole}
-use Rattle.bit_writer.specs.Played.{played}
+use Rattle.bit_writer.specs.Writing.{Writing, with_refusal, feed, play-bits}
+use Rattle.bit_writer.specs.Stop.{play_on, on-bits, on_then, on-refused}
 use Rattle.bit_writer.specs.Written.{written, ended}
 
 -- bits of a writing that nothing refused
@@ -33,12 +32,3 @@ stopped_at w o r e xs h = at_err w o r e h ∙ refused_stays (written w o) e xs
 -- a call that refused, and what was to come
 pub refused_before : (v w : Writing) (e : Refusal) (xs ys : List Symbol) → with_refusal w (number e) ≡ play_on v xs → with_refusal w (number e) ≡ play_on v (xs ++ ys)
 refused_before v w e xs ys p = on_then v xs ys p (refused_stays w e ys)
-
--- the writing that stops has the refusal of the whole stream, and where there is none it is the writing that goes on
-pub on_refusal : (w : Writing) (xs : List Symbol) → w.sink.refused ≡ 0 → (play_on w xs).sink.refused ≡ refusal_in xs
-on_refusal w xs z =
-    ap (λ (x : Writing). x.sink.refused) (on-play w xs z ∙ played (up_to_refusal xs) w)
-    ∙ ap (λ (k : ℕ). first k (refusal_in (up_to_refusal xs))) z ∙ first-left (refusal_in (up_to_refusal xs)) ∙ same-refusal xs
-
-pub on_whole : (w : Writing) (xs : List Symbol) → w.sink.refused ≡ 0 → refusal_in xs ≡ 0 → play_on w xs ≡ play w xs
-on_whole w xs z h = on-play w xs z ∙ ap (play w) (unrefused-whole xs h)

@@ -7,7 +7,7 @@ use mathlib.Core.Path.{◌≡◌, refl, sym, ap, ap₂, ◌∙◌}
 use lib.ListN.{set}
 use lib.Dec.{eqb}
 use borrow.Author.Tests.{eqb-true}
-use Rattle.codes.specs.Symbols.{Symbol, refuse, first, first-left, first-right, putting, check, check-true}
+use Rattle.codes.specs.Symbols.{refuse, first, first-left, first-right, putting, check, check-true}
 use Rattle.nal.specs.Escape.{needs_escape, zero_run, escape_end}
 use Rattle.nal.specs.Laws.{escape_byte_plain, escape_byte-escaped, escape_run_plain, escape_run-escaped, escape_end-none, escape_end_three}
 use Rattle.bit_writer.specs.declared.BitWriter.{BitWriter}

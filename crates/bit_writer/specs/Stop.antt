@@ -1,12 +1,12 @@
--- Writing that stops at its first refusal. What a hostile record says behind a refusal has no bound in its tables, so nothing of it is put; where nothing is
--- refused this is the writing of `bit_writer`, and its refusal is always the same.
+-- Writing that stops at its first refusal: what a hostile record says behind one has no bound, so nothing of it is put. Where nothing is refused this is the
+-- writing that goes on (`on_whole`), and the refusal is always that of the whole stream (`on_refusal`).
 use Rattle.std.specs.Prelude.{ℕ, ◌<◌, ◌≡◌, refl, Bool, true, false, cond, eqb}
 use Rattle.std.proofs.Math.Path.{sym}
 use Rattle.std.proofs.Common.{ap, ◌∙◌, arith, eq-eqb, ne_eqb, eqb-true}
 use mathlib.Core.List.{List, [], ◌∷◌, ◌++◌}
 use Rattle.std.proofs.lemmas.Bool.{eqb-false}
 use Rattle.codes.specs.Coded.{only_if}
-use Rattle.codes.specs.Symbols.{Symbol, bit, refuse, first, first-none, refusal_in, putting, check, checked, check-true, check-false}
+use Rattle.codes.specs.Symbols.{Symbol, bit, refuse, first, first-left, first-none, refusal_in, putting, check, checked, check-true, check-false}
 use Rattle.bit_writer.specs.Writing.{Writing, with_refusal, step, play, play-none}
 use Rattle.bit_writer.specs.Played.{played}
 
@@ -135,3 +135,12 @@ unrefused-whole (bit b ∷ xs) h = ap (λ (l : List Symbol). bit b ∷ l) (unref
 unrefused-whole (refuse n ∷ xs) h =
     let p = first-none n (refusal_in xs) h in
     rw (eq-eqb n 0 p.0) (ap (λ (l : List Symbol). refuse n ∷ l) (unrefused-whole xs p.1))
+
+-- the writing that stops has the refusal of the whole stream, and where there is none it is the writing that goes on
+pub on_refusal : (w : Writing) (xs : List Symbol) → w.sink.refused ≡ 0 → (play_on w xs).sink.refused ≡ refusal_in xs
+on_refusal w xs z =
+    ap (λ (x : Writing). x.sink.refused) (on-play w xs z ∙ played (up_to_refusal xs) w)
+    ∙ ap (λ (k : ℕ). first k (refusal_in (up_to_refusal xs))) z ∙ first-left (refusal_in (up_to_refusal xs)) ∙ same-refusal xs
+
+pub on_whole : (w : Writing) (xs : List Symbol) → w.sink.refused ≡ 0 → refusal_in xs ≡ 0 → play_on w xs ≡ play w xs
+on_whole w xs z h = on-play w xs z ∙ ap (play w) (unrefused-whole xs h)

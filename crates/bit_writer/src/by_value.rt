@@ -14,21 +14,20 @@ use super::exp_golomb::{code_num, has_code};
 use super::{BitWriter, Sink};
 use refusal::Refusal;
 
-impl From<Sink> for BitWriter {
-    ghost from_gives = { λ s w. w ≡ writer_of s };
-
-    fn from(s: Sink) -> BitWriter {
+impl Sink {
+    // All but the refusal, which its caller keeps.
+    fn writer(self) -> BitWriter
+        ensures { result ≡ writer_of self }
+    {
         BitWriter {
-            escape: s.escape,
-            zeros: s.zeros,
-            put: s.put,
-            cur: s.cur,
-            have: s.have,
+            escape: self.escape,
+            zeros: self.zeros,
+            put: self.put,
+            cur: self.cur,
+            have: self.have,
         }
     }
-}
 
-impl Sink {
     // A writer's fields, with a refusal's number.
     fn of(w: BitWriter, refused: u8) -> Sink
         ensures { result ≡ sink_of w refused }
@@ -52,7 +51,7 @@ impl Sink {
     pub fn put_bit(self, out: &mut [u8], b: u32) -> Sink
         ensures { sink_over result out.new ≡ play (sink_over self out.old) (putting (b % 2 ∷ [])) }
     {
-        let mut w = BitWriter::from(self);
+        let mut w = self.writer();
         w.put_bit(out, b);
         Sink::of(w, self.refused)
     }
@@ -61,7 +60,7 @@ impl Sink {
         ensures { sink_over result out.new
             ≡ play (sink_over self out.old) (putting (to_bits (min n 32) value)) }
     {
-        let mut w = BitWriter::from(self);
+        let mut w = self.writer();
         w.put_bits(out, value, n);
         Sink::of(w, self.refused)
     }
@@ -70,7 +69,7 @@ impl Sink {
         ensures { sink_over result out.new
             ≡ play (sink_over self out.old) (putting (bit_list src.now from count)) }
     {
-        let mut w = BitWriter::from(self);
+        let mut w = self.writer();
         w.put_copy(out, src, from, count);
         Sink::of(w, self.refused)
     }
@@ -81,7 +80,7 @@ impl Sink {
         ensures { sink_over result out.new
             ≡ play (sink_over self out.old) (checked (ltb k 4294967295) 25 (ue_code k)) }
     {
-        let mut w = BitWriter::from(self);
+        let mut w = self.writer();
         w.put_code(out, k);
         if self.refused != 0 || has_code(k) {
             return Sink::of(w, self.refused);
@@ -104,7 +103,7 @@ impl Sink {
     pub fn close(self, out: &mut [u8]) -> Sink
         ensures { sink_over result out.new ≡ closed (sink_over self out.old) }
     {
-        let mut w = BitWriter::from(self);
+        let mut w = self.writer();
         w.close(out);
         Sink::of(w, self.refused)
     }

@@ -1,29 +1,22 @@
 // Bytes into the output, at the writer's place.
-ghost use Rattle.std.specs.Prelude.{◌≡◌, set};
+ghost use Rattle.std.specs.Prelude.{◌≡◌};
 ghost use Rattle.bit_writer.specs.Writing.{put_raw, put_byte};
 ghost use Rattle.bit_writer.specs.Written.{written};
 
 use super::BitWriter;
+use tables::places::put;
 
 // A place that no output reaches: the count goes no further.
 const FARTHEST: usize = 1 << 63;
-
-// A store outside the output does nothing.
-pub fn store(out: &mut [u8], at: usize, b: u8)
-    ensures { out.new ≡ set out.old at b }
-{
-    if at < out.len() {
-        out[at] = b;
-    }
-}
 
 impl BitWriter {
     // One byte as it is.
     pub(crate) fn put_raw(&mut self, out: &mut [u8], b: u8)
         ensures { written self.new out.new ≡ put_raw (written self.old out.old) b }
     {
-        store(out, self.put, b);
-        self.put = self.put.saturating_add(1).min(FARTHEST);
+        let at = self.put;
+        put(out, at, b);
+        self.put = at.min(FARTHEST - 1) + 1;
     }
 
     // A byte that is whole.

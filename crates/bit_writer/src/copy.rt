@@ -8,6 +8,7 @@ ghost use Rattle.bit_writer.specs.Stop.{play_on};
 ghost use Rattle.bit_writer.specs.Written.{written};
 
 use super::BitWriter;
+
 // Byte `i` as bits are counted, 0 past the end.
 fn byte_at(src: &[u8], i: usize) -> u8
     ensures { result ≡ bits_at src.now (i * 8) 8 }
@@ -48,13 +49,16 @@ impl BitWriter {
         let first = from / 8;
         let end = first + count / 8;
         let mut a = byte_at(src, first);
+        // By itself, since a store to the output may change anything that a reference leads to.
+        let mut w = *self;
         for i in first..end {
             let b = byte_at(src, i + 1);
-            self.put_eight(out, eight_of(a, b, from));
+            w.put_eight(out, eight_of(a, b, from));
             a = b;
         }
         let b = byte_at(src, end + 1);
         let left = count % 8;
-        self.put_word(out, eight_of(a, b, from) as u64 >> (8 - left), left as u32);
+        w.put_word(out, eight_of(a, b, from) as u64 >> (8 - left), left as u32);
+        *self = w;
     }
 }

@@ -1,6 +1,6 @@
 // The codes ue(v) and se(v) (H.266 9.2).
-ghost use Rattle.std.specs.Prelude.{◌≡◌, ◌≤◌, ◌<◌, ltb};
-ghost use Rattle.codes.specs.ExpGolomb.{floor_log2, ue_code, code_num};
+ghost use Rattle.std.specs.Prelude.{◌≡◌, ◌≤◌, ltb};
+ghost use Rattle.codes.specs.ExpGolomb.{ue_code, code_num};
 ghost use Rattle.codes.specs.Symbols.{checked};
 ghost use Rattle.bit_writer.specs.Writing.{feed};
 ghost use Rattle.bit_writer.specs.Stop.{play_on};
@@ -9,14 +9,6 @@ ghost use Rattle.bit_writer.specs.Written.{written, ended};
 use super::BitWriter;
 use refusal::Refusal;
 
-// The place of the highest 1; std has no ilog2.
-fn top(n: u64) -> u32
-    requires { 0 < n }
-    ensures { result ≡ floor_log2 n }
-{
-    63 - n.leading_zeros()
-}
-
 impl BitWriter {
     // The ue(v) code of `k`: k + 1 behind as many zeros as it has bits after its first.
     pub(crate) fn put_code(&mut self, out: &mut [u8], k: u64)
@@ -24,7 +16,7 @@ impl BitWriter {
         ensures { written self.new out.new ≡ feed (written self.old out.old) (ue_code k) }
     {
         let n = k + 1;
-        let z = top(n);
+        let z = n.ilog2();
         if z < 32 {
             self.put_word(out, n, 2 * z + 1);
             return;

@@ -12,8 +12,8 @@ ghost use Rattle.codes.specs.Coded.{flag_bit, ue_symbols, se_symbols};
 ghost use Rattle.bit_writer.specs.Stop.{play_on};
 ghost use Rattle.bit_writer.specs.Written.{written, ended};
 
-use bytes::store;
 use refusal::Refusal;
+use tables::places::put;
 
 mod by_value;
 mod bytes;
@@ -74,8 +74,8 @@ impl BitWriter {
     pub fn start_nal(out: &mut [u8], first: u8, second: u8) -> BitWriter
         ensures { written result out.new ≡ sink_over (fresh true 2) (sets out.old 0 (first ∷ second ∷ [])) }
     {
-        store(out, 0, first);
-        store(out, 1, second);
+        put(out, 0, first);
+        put(out, 1, second);
         BitWriter {
             put: 2,
             ..BitWriter::new(true)

@@ -1,16 +1,16 @@
 // The tile grid of a picture, from its explicit tile sizes.
 #![tactic(auto)]
 
-ghost use Rattle.std.specs.Prelude.{◌≡◌, take};
-ghost use Rattle.partition.specs.Grid.{max_tile_columns, max_tiles};
+ghost use Rattle.std.specs.Prelude.{◌≡◌, ◌≤◌, length, take};
+ghost use Rattle.partition.specs.Grid.{tiles, max_tile_columns, max_tiles};
 ghost use Rattle.partition.specs.Sizes.{axis_sizes};
 ghost use Rattle.refusal.specs.Answers.{with_number};
 ghost use Rattle.grid_sizes.specs.Answers.{FitsTable, grid_of_sizes, grid_sizes};
+ghost use Rattle.grid_sizes.specs.Fronts.{grid_in};
 
 use refusal::Refusal;
 use sizes::{axis_answer, explicit_refusal, sizes_into};
 use slice_loop::CtbCount;
-use tables::places::at_most;
 use tile_sizes::{MAX_TILE_COLUMNS, MAX_TILES, in_ctbs};
 
 mod sizes;
@@ -22,6 +22,35 @@ pub struct GridSizes {
     pub num_tile_rows: u32,
     pub column_widths: [u32; MAX_TILE_COLUMNS as usize],
     pub row_heights: [u32; MAX_TILES as usize],
+}
+
+impl GridSizes {
+    // The columns in use.
+    pub fn column_widths(&self) -> &[u32]
+        ensures used { result.now ≡ take self.now.num_tile_columns self.now.column_widths }
+        ensures few { length result.now ≤ max_tile_columns }
+    {
+        let columns = self.column_widths.len().min(self.num_tile_columns as usize);
+        &self.column_widths[..columns]
+    }
+
+    // The rows in use.
+    pub fn row_heights(&self) -> &[u32]
+        ensures used { result.now ≡ take self.now.num_tile_rows self.now.row_heights }
+        ensures few { length result.now ≤ max_tiles }
+    {
+        let rows = self.row_heights.len().min(self.num_tile_rows as usize);
+        &self.row_heights[..rows]
+    }
+
+    // NumTilesInPic.
+    pub fn num_tiles(&self) -> u64
+        ensures { result ≡ tiles (grid_in self.now) }
+    {
+        let columns = self.column_widths();
+        let rows = self.row_heights();
+        rows.len() as u64 * columns.len() as u64
+    }
 }
 
 // The tables of a grid that fits, of so many columns and rows.
@@ -75,28 +104,4 @@ pub fn grid_sizes(
         height,
         rows,
     ))
-}
-
-// The same from the first `columns` and `rows` sizes of two tables.
-pub fn sizes_in_tables(
-    pic_width_in_luma_samples: u32,
-    pic_height_in_luma_samples: u32,
-    log2_ctu_size_minus5: u8,
-    tile_column_widths: &[u32],
-    columns: u32,
-    tile_row_heights: &[u32],
-    rows: u32,
-) -> Result<GridSizes, Refusal>
-    ensures { with_number result ≡ grid_sizes pic_width_in_luma_samples pic_height_in_luma_samples log2_ctu_size_minus5
-        (take columns tile_column_widths.now) (take rows tile_row_heights.now) }
-{
-    let a = at_most(columns, tile_column_widths.len());
-    let b = at_most(rows, tile_row_heights.len());
-    grid_sizes(
-        pic_width_in_luma_samples,
-        pic_height_in_luma_samples,
-        log2_ctu_size_minus5,
-        &tile_column_widths[..a],
-        &tile_row_heights[..b],
-    )
 }

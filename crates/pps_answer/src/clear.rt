@@ -3,8 +3,8 @@ ghost use Rattle.std.specs.Prelude.{◌≡◌};
 ghost use Rattle.pps_tables.specs.Mutable.{before, after};
 ghost use Rattle.pps_answer.specs.Lending.{cleared};
 
-use pps_tables::{ENTRY_LEN, clear_rows};
-use tables::clear_u32;
+use pps_tables::ENTRY_LEN;
+use tables::clear;
 
 // All tables, over their whole lent length.
 pub fn clear_tables(
@@ -17,9 +17,9 @@ pub fn clear_tables(
     ensures { after subpic_ids tile_column_widths tile_row_heights entries split_heights
         ≡ cleared (before subpic_ids tile_column_widths tile_row_heights entries split_heights) }
 {
-    clear_u32(subpic_ids);
-    clear_u32(tile_column_widths);
-    clear_u32(tile_row_heights);
-    clear_rows(entries);
-    clear_u32(split_heights);
+    clear(subpic_ids, 0);
+    clear(tile_column_widths, 0);
+    clear(tile_row_heights, 0);
+    clear(entries, [0; ENTRY_LEN]);
+    clear(split_heights, 0);
 }

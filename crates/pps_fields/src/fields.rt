@@ -71,18 +71,12 @@ pub fn ue_below(r: &mut BitReader<'_>, bound: u32, refusal: Refusal) -> Result<u
     Ok(v)
 }
 
-fn in_range(v: i32) -> bool
-    ensures { result ≡ in_range v }
-{
-    (-12 <= v) & (v <= 12)
-}
-
 // An offset of −12 to 12.
 pub fn read_offset(r: &mut BitReader<'_>) -> Result<i32, Refusal>
     ensures { Gives offset.read r.old r.new result }
 {
     let v = r.se()?;
-    if !in_range(v) {
+    if !(-12..=12).contains(&v) {
         return Err(Refusal::QpOffset);
     }
     Ok(v)

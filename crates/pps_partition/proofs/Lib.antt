@@ -2,4 +2,5 @@ pub mod Fronts
 pub mod Slices
 pub mod Sizes
 pub mod Whole
+pub mod NothingLeft
 pub mod GridTests

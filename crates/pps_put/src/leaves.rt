@@ -50,18 +50,11 @@ pub fn put_ue_at_most(
     w.put_ue(out, v)
 }
 
-// Whether a QP or deblocking offset is one of -12 to 12.
-fn in_range(v: i32) -> bool
-    ensures { result ≡ in_range v }
-{
-    (-12 <= v) & (v <= 12)
-}
-
-// A QP or deblocking offset.
+// A QP or deblocking offset, one of -12 to 12.
 pub fn put_offset(w: &mut BitWriter, out: &mut [u8], v: i32) -> Result<(), Refusal>
     ensures { ended w.new out.new result ≡ play_on (written w.old out.old) (offset.symbols v) }
 {
-    test(in_range(v), Refusal::QpOffset)?;
+    test((-12..=12).contains(&v), Refusal::QpOffset)?;
     w.put_se(out, v)
 }
 

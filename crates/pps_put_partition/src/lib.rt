@@ -18,7 +18,6 @@ use pps_record::VvcPpsPartition;
 use pps_tables::{LentTables, SliceTables};
 use refusal::Refusal;
 use slicing::put_slicing;
-use tables::places::at_most;
 use tiles::put_tile_sizes;
 
 mod flags;
@@ -44,8 +43,7 @@ fn put_block(
 {
     let ctu = p.pps_log2_ctu_size_minus5;
     put_tile_sizes(w, out, pic_width, pic_height, ctu, widths, heights)?;
-    let sizes = grid_sizes(pic_width, pic_height, ctu, widths, heights);
-    let grid = sizes?;
+    let grid = grid_sizes(pic_width, pic_height, ctu, widths, heights)?;
     put_slicing(w, out, &grid, p, slices)
 }
 
@@ -63,16 +61,14 @@ pub fn put_partition(
         ended w.new out.new result
         ≡ play_on (written w.old out.old) (symbols_for (partition pic_width pic_height) block) }
 {
-    let columns = at_most(p.num_tile_column_widths, tables.tile_column_widths.len());
-    let rows = at_most(p.num_tile_row_heights, tables.tile_row_heights.len());
     put_block(
         w,
         out,
         pic_width,
         pic_height,
         p,
-        &tables.tile_column_widths[..columns],
-        &tables.tile_row_heights[..rows],
+        tables.column_widths(p.num_tile_column_widths),
+        tables.row_heights(p.num_tile_row_heights),
         tables.slices,
     )
 }

@@ -19,17 +19,6 @@ use pps_record::VvcPpsPartition;
 use pps_tables::SliceTables;
 use refusal::Refusal;
 use slice_loop::SliceIdx;
-use tables::places::at_most;
-use tile_sizes::{MAX_TILE_COLUMNS, MAX_TILES};
-
-// The grid has more than one tile.
-fn several_tiles(grid: &GridSizes) -> bool
-    ensures { result ≡ several (grid_in grid.now) }
-{
-    let columns = at_most(grid.num_tile_columns, MAX_TILE_COLUMNS as usize);
-    let rows = at_most(grid.num_tile_rows, MAX_TILES as usize);
-    rows as u64 * columns as u64 > 1
-}
 
 fn put_flags(
     w: &mut BitWriter,
@@ -94,7 +83,7 @@ pub fn put_slicing(
 {
     let coded = (p.pps_rect_slice_flag != 0) & (p.pps_single_slice_per_subpic_flag == 0);
     let one = coded & (p.pps_num_slices_in_pic_minus1 == 0);
-    put_flags(w, out, several_tiles(grid), p)?;
+    put_flags(w, out, grid.num_tiles() > 1, p)?;
     put_coded_slices(w, out, coded, grid, p, slices)?;
     put_flag_if(w, out, !one, p.pps_loop_filter_across_slices_enabled_flag);
     Ok(())

@@ -16,8 +16,6 @@ use grid_sizes::GridSizes;
 use pps_tables::SliceTables;
 use refusal::Refusal;
 use slice_loop::SliceIdx;
-use tables::places::at_most;
-use tile_sizes::{MAX_TILE_COLUMNS, MAX_TILES};
 use walk::put_entries;
 
 mod entry;
@@ -40,13 +38,11 @@ pub fn put_rect_slices(
         ≡ play_on (written w.old out.old)
         ((rect_slices (grid_in grid.now) deltas_coded n.0 first_position).symbols entries) }
 {
-    let columns = at_most(grid.num_tile_columns, MAX_TILE_COLUMNS as usize);
-    let rows = at_most(grid.num_tile_rows, MAX_TILES as usize);
     put_entries(
         w,
         out,
-        &grid.column_widths[..columns],
-        &grid.row_heights[..rows],
+        grid.column_widths(),
+        grid.row_heights(),
         deltas_coded,
         n,
         count,

@@ -1,27 +1,66 @@
-// The tiles and the numbered slices of a report, as SVG.
+// A report as SVG: its tiles and its numbered slices, or a line that says why there are none.
+use crate::heading::Heading;
+use crate::page::{Line, Page};
 use crate::report::Report;
 use crate::scale::Frame;
-use crate::{page, slices, tiles};
-use tile_sizes::in_ctbs;
+use crate::slices::{SliceNumbers, Slices};
+use crate::text::Refused;
+use crate::tiles::Tiles;
+use refusal::Refusal;
+use std::fmt;
 
-pub fn draw(rt: &impl Print, report: &Report) {
-    if report.num_tile_columns == 0 {
-        page::unpartitioned(rt, report.width, report.height);
-        return;
+#[derive(Clone, Copy)]
+pub struct Drawing<'a>(pub &'a Result<Report, Refusal>);
+
+impl fmt::Display for Drawing<'_> {
+    fn fmt<W: fmt::Write>(&self, f: &mut fmt::Formatter<W>) -> fmt::Result {
+        match self.0 {
+            Err(refusal) => write!(f, "{}", Page::of_line(Refused(*refusal))),
+            Ok(report) if report.num_tile_columns == 0 => {
+                write!(f, "{}", Page::of_line(Unpartitioned(report)))
+            }
+            Ok(report) => write!(f, "{}", Page::of_picture(report)),
+        }
     }
-    let frame = Frame::new(
-        in_ctbs(report.width, report.log2_ctu_size_minus5).0,
-        in_ctbs(report.height, report.log2_ctu_size_minus5).0,
-        report.num_tile_columns,
-        report.num_tile_rows,
-        report.num_slices,
-    );
-    page::open(rt, frame.height);
-    page::heading(rt, report);
-    page::open_area(rt);
-    slices::draw_slices(rt, report.slices(), frame);
-    tiles::draw_tiles(rt, report, frame);
-    slices::number_slices(rt, report.slices(), frame);
-    page::close_area(rt);
-    page::close(rt);
+}
+
+#[derive(Clone, Copy)]
+struct Unpartitioned<'a>(&'a Report);
+
+impl fmt::Display for Unpartitioned<'_> {
+    fn fmt<W: fmt::Write>(&self, f: &mut fmt::Formatter<W>) -> fmt::Result {
+        write!(f, "picture {} x {}, ", self.0.width, self.0.height)?;
+        write!(f, "not partitioned into tiles")
+    }
+}
+
+// The picture stands in an area of its own, 9,600 units wide.
+#[derive(Clone, Copy)]
+struct Picture<'a> {
+    report: &'a Report,
+    frame: Frame,
+}
+
+impl Page<Picture<'_>> {
+    fn of_picture(report: &Report) -> Page<Picture<'_>> {
+        let frame = Frame::new(report);
+        Page {
+            height: frame.height,
+            content: Picture { report, frame },
+        }
+    }
+}
+
+impl fmt::Display for Picture<'_> {
+    fn fmt<W: fmt::Write>(&self, f: &mut fmt::Formatter<W>) -> fmt::Result {
+        let report = self.report;
+        let frame = self.frame;
+        let slices = report.slices();
+        write!(f, "{}", Heading(report))?;
+        writeln!(f, "<g transform='translate(200 1100)'>")?;
+        write!(f, "{}", Slices { slices, frame })?;
+        write!(f, "{}", Tiles { report, frame })?;
+        write!(f, "{}", SliceNumbers { slices, frame })?;
+        writeln!(f, "</g>")
+    }
 }

@@ -1,6 +1,6 @@
 // What the programs say of a NAL unit with a picture parameter set. Each function tells the number of the unit's
-// refusal, or 0; of what it prints no contract can speak. A write that fails is passed over: what is told goes on with
-// the next one.
+// refusal, or 0; what is printed beside it no contract says. A write that fails ends what is printed, and is passed
+// over.
 #![tactic(auto)]
 
 ghost use Rattle.std.specs.Prelude.{◌≡◌};
@@ -8,6 +8,7 @@ ghost use Rattle.pps_report.specs.Told.{refusal_told};
 ghost use Rattle.refusal.specs.Numbers.{refused};
 
 mod drawing;
+mod heading;
 mod input;
 mod marks;
 mod page;
@@ -17,10 +18,11 @@ mod slices;
 mod text;
 mod tiles;
 
+use drawing::Drawing;
 pub use input::{LARGEST, read_full};
 use refusal::Refusal;
 use report::{Report, report_of};
-use text::Refused;
+use text::Info;
 use tile_sizes::{MAX_SLICES, MAX_TILE_COLUMNS, MAX_TILES};
 
 // The lengths of the lists in a report.
@@ -30,13 +32,12 @@ const ROWS: usize = MAX_TILES as usize;
 
 const SLICES: usize = MAX_SLICES as usize;
 
+// The number of a refusal, 0 where there is none.
+#[tactic(auto, unfolding(refusal::specs::Numbers::refused))]
 fn told(report: &Result<Report, Refusal>) -> u8
     ensures { result ≡ refused report.now }
 {
-    match report {
-        Ok(_) => 0,
-        Err(refusal) => refusal.number(),
-    }
+    report.as_ref().err().map_or(0, |refusal| refusal.number())
 }
 
 // Prints of a unit: bytes taken, size, tiles and cover, or the number of its refusal.
@@ -44,14 +45,7 @@ pub fn print_info(rt: &impl Print, nal: &[u8]) -> u8
     ensures { result ≡ refusal_told nal.now }
 {
     let report = report_of(nal);
-    match &report {
-        Ok(report) => {
-            let _ = rt.print(report);
-        }
-        Err(refusal) => {
-            let _ = rt.println(Refused(*refusal));
-        }
-    }
+    let _ = rt.print(Info(&report));
     told(&report)
 }
 
@@ -60,9 +54,6 @@ pub fn print_svg(rt: &impl Print, nal: &[u8]) -> u8
     ensures { result ≡ refusal_told nal.now }
 {
     let report = report_of(nal);
-    match &report {
-        Ok(report) => drawing::draw(rt, report),
-        Err(refusal) => page::refused(rt, Refused(*refusal)),
-    }
+    let _ = rt.print(Drawing(&report));
     told(&report)
 }

@@ -1,6 +1,7 @@
 // CTBs in the units of the drawing. A result that would pass a u32 stays at its largest number.
-use crate::report::Rect;
+use crate::report::{Rect, Report};
 use std::fmt;
+use tile_sizes::in_ctbs;
 
 // Units across the picture, whatever its width.
 const WIDTH: u32 = 9600;
@@ -32,10 +33,13 @@ fn scaled(place: u32, ctbs: u32, units: u32) -> u32 {
 impl Frame {
     // Blocks are drawn square, unless the picture would then be lower than an eighth of its width or higher than one
     // and a half of it. The more tiles or slices stand side by side, the thinner are their borders.
-    pub fn new(ctbs_across: u32, ctbs_down: u32, columns: u32, rows: u32, slices: u32) -> Frame {
+    pub fn new(report: &Report) -> Frame {
+        let ctbs_across = in_ctbs(report.width, report.log2_ctu_size_minus5).0;
+        let ctbs_down = in_ctbs(report.height, report.log2_ctu_size_minus5).0;
         let square = scaled(ctbs_down, ctbs_across, WIDTH);
-        let in_a_column = slices.checked_div(columns).unwrap_or(0);
-        let side_by_side = columns.max(rows).max(in_a_column);
+        let columns = report.num_tile_columns;
+        let in_a_column = report.num_slices.checked_div(columns).unwrap_or(0);
+        let side_by_side = columns.max(report.num_tile_rows).max(in_a_column);
         Frame {
             ctbs_across,
             ctbs_down,

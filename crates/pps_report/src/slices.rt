@@ -1,7 +1,8 @@
 // The slices, and whether they hold a block.
-use crate::marks::number_in;
+use crate::marks::Number;
 use crate::report::Rect;
 use crate::scale::Frame;
+use std::fmt;
 
 impl Rect {
     // It holds the block at x, y.
@@ -14,21 +15,41 @@ fn within(first: u32, count: u32, x: u32) -> bool {
     x >= first && x - first < count
 }
 
-// Each slice in a colour of its own, neighbours in the order far apart.
-pub fn draw_slices(rt: &impl Print, slices: &[Rect], frame: Frame) {
-    let border = frame.border;
-    for (i, &slice) in slices.iter().enumerate() {
-        let area = frame.area(slice).inset(border / 2);
-        let hue = i % 360 * 137 % 360;
-        let _ = println!(rt;
-            "<rect {area} fill='hsl({hue},70%,75%)' fill-opacity='.6' \
-            stroke='#222' stroke-width='{border}'/>"
-        );
+// Each in a colour of its own, neighbours in the order far apart.
+#[derive(Clone, Copy)]
+pub struct Slices<'a> {
+    pub slices: &'a [Rect],
+    pub frame: Frame,
+}
+
+impl fmt::Display for Slices<'_> {
+    fn fmt<W: fmt::Write>(&self, f: &mut fmt::Formatter<W>) -> fmt::Result {
+        let border = self.frame.border;
+        for (i, &slice) in self.slices.iter().enumerate() {
+            let area = self.frame.area(slice).inset(border / 2);
+            let hue = i % 360 * 137 % 360;
+            writeln!(
+                f,
+                "<rect {area} fill='hsl({hue},70%,75%)' fill-opacity='.6' \
+                stroke='#222' stroke-width='{border}'/>"
+            )?;
+        }
+        Ok(())
     }
 }
 
-pub fn number_slices(rt: &impl Print, slices: &[Rect], frame: Frame) {
-    for (i, &slice) in slices.iter().enumerate() {
-        number_in(rt, i, frame.area(slice));
+// Their numbers, which stand above the tiles.
+#[derive(Clone, Copy)]
+pub struct SliceNumbers<'a> {
+    pub slices: &'a [Rect],
+    pub frame: Frame,
+}
+
+impl fmt::Display for SliceNumbers<'_> {
+    fn fmt<W: fmt::Write>(&self, f: &mut fmt::Formatter<W>) -> fmt::Result {
+        for (i, &slice) in self.slices.iter().enumerate() {
+            write!(f, "{}", Number::in_the_middle(i, self.frame.area(slice)))?;
+        }
+        Ok(())
     }
 }

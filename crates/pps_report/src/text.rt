@@ -29,7 +29,19 @@ impl fmt::Display for CoverWord {
     }
 }
 
-// Four lines of a unit that is read.
+// What is told of a unit: four lines, or one of its refusal.
+#[derive(Clone, Copy)]
+pub struct Info<'a>(pub &'a Result<Report, Refusal>);
+
+impl fmt::Display for Info<'_> {
+    fn fmt<W: fmt::Write>(&self, f: &mut fmt::Formatter<W>) -> fmt::Result {
+        match self.0 {
+            Ok(report) => write!(f, "{report}"),
+            Err(refusal) => writeln!(f, "{}", Refused(*refusal)),
+        }
+    }
+}
+
 impl fmt::Display for Report {
     fn fmt<W: fmt::Write>(&self, f: &mut fmt::Formatter<W>) -> fmt::Result {
         writeln!(f, "accepted {}", self.bytes_taken)?;

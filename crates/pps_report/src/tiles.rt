@@ -1,61 +1,84 @@
 // The tiles: borders, numbers, and whether they lie in no slice or in several.
-use crate::marks::number_in_corner;
+use crate::marks::Number;
 use crate::report::{Rect, Report};
-use crate::scale::{Area, Frame};
+use crate::scale::Frame;
+use std::fmt;
 
-// A mark where a tile lies in no slice or in several. A slice holds a tile whole or is cut from it with others that
-// hold the rest, so that as many slices hold the first block as any other.
-fn mark(rt: &impl Print, tile: Rect, slices: &[Rect], area: Area) {
-    let hatching = match slices
-        .iter()
-        .filter(|s| s.holds(tile.left, tile.top))
-        .take(2)
-        .count()
-    {
-        0 => "gap",
-        1 => return,
-        _ => "double",
-    };
-    let _ = println!(rt; "<rect {area} fill='url(#{hatching})'/>");
+#[derive(Clone, Copy)]
+struct Tile<'a> {
+    number: usize,
+    rect: Rect,
+    slices: &'a [Rect],
+    frame: Frame,
 }
 
-fn border(rt: &impl Print, t: usize, area: Area, width: u32) {
-    let _ = println!(rt;
-        "<rect {area} fill='none' stroke='#000' stroke-width='{width}' stroke-dasharray='60 40'/>"
-    );
-    number_in_corner(rt, t, area);
-}
-
-fn draw_tile(rt: &impl Print, t: usize, tile: Rect, slices: &[Rect], frame: Frame) {
-    let area = frame.area(tile);
-    if !slices.is_empty() {
-        mark(rt, tile, slices, area);
-    }
-    border(rt, t, area, frame.border / 3);
-}
-
-pub fn draw_tiles(rt: &impl Print, report: &Report, frame: Frame) {
-    let column_widths = report.column_widths();
-    let mut top = 0u32;
-    for (row, &height) in report.row_heights().iter().enumerate() {
-        let first = row.saturating_mul(column_widths.len());
-        let mut left = 0u32;
-        for (column, &width) in column_widths.iter().enumerate() {
-            let tile = Rect {
-                left,
-                top,
-                width,
-                height,
-            };
-            draw_tile(
-                rt,
-                first.saturating_add(column),
-                tile,
-                report.slices(),
-                frame,
-            );
-            left = left.saturating_add(width);
+impl Tile<'_> {
+    // What marks a tile in no slice or in several. A slice holds a tile whole or is cut from it with others that hold
+    // the rest, so that as many slices hold the first block as any other.
+    fn hatching(&self) -> Option<&'static str> {
+        if self.slices.is_empty() {
+            return None;
         }
-        top = top.saturating_add(height);
+        match self
+            .slices
+            .iter()
+            .filter(|s| s.holds(self.rect.left, self.rect.top))
+            .take(2)
+            .count()
+        {
+            0 => Some("gap"),
+            1 => None,
+            _ => Some("double"),
+        }
+    }
+}
+
+impl fmt::Display for Tile<'_> {
+    fn fmt<W: fmt::Write>(&self, f: &mut fmt::Formatter<W>) -> fmt::Result {
+        let area = self.frame.area(self.rect);
+        let border = self.frame.border / 3;
+        if let Some(hatching) = self.hatching() {
+            writeln!(f, "<rect {area} fill='url(#{hatching})'/>")?;
+        }
+        writeln!(
+            f,
+            "<rect {area} fill='none' stroke='#000' stroke-width='{border}' stroke-dasharray='60 40'/>"
+        )?;
+        write!(f, "{}", Number::in_the_corner(self.number, area))
+    }
+}
+
+#[derive(Clone, Copy)]
+pub struct Tiles<'a> {
+    pub report: &'a Report,
+    pub frame: Frame,
+}
+
+impl fmt::Display for Tiles<'_> {
+    fn fmt<W: fmt::Write>(&self, f: &mut fmt::Formatter<W>) -> fmt::Result {
+        let column_widths = self.report.column_widths();
+        let mut number = 0usize;
+        let mut top = 0u32;
+        for &height in self.report.row_heights() {
+            let mut left = 0u32;
+            for &width in column_widths {
+                let tile = Tile {
+                    number,
+                    rect: Rect {
+                        left,
+                        top,
+                        width,
+                        height,
+                    },
+                    slices: self.report.slices(),
+                    frame: self.frame,
+                };
+                write!(f, "{tile}")?;
+                number = number.saturating_add(1);
+                left = left.saturating_add(width);
+            }
+            top = top.saturating_add(height);
+        }
+        Ok(())
     }
 }

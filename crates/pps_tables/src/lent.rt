@@ -66,7 +66,23 @@ impl<'a> SliceTables<'a> {
     }
 }
 
-impl LentTables<'_> {
+impl<'a> LentTables<'a> {
+    // The first so many explicit column widths; all that there are, where there are fewer.
+    pub fn column_widths(self, columns: u32) -> &'a [u32]
+        ensures { result.now ≡ take columns self.entry.tile_column_widths.now }
+    {
+        let columns = self.tile_column_widths.len().min(columns as usize);
+        &self.tile_column_widths[..columns]
+    }
+
+    // The first so many explicit row heights.
+    pub fn row_heights(self, rows: u32) -> &'a [u32]
+        ensures { result.now ≡ take rows self.entry.tile_row_heights.now }
+    {
+        let rows = self.tile_row_heights.len().min(rows as usize);
+        &self.tile_row_heights[..rows]
+    }
+
     // The test of 5.
     pub fn are_long(self) -> bool
         ensures { result ≡ tables_long (lent_of self.entry) }

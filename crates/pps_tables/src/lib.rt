@@ -1,14 +1,11 @@
 // The lent tables: their lengths, the rows of the slice entries, and a delta as its 32 bits.
 #![tactic(auto)]
 
-ghost use Rattle.std.specs.Prelude.{◌≡◌, length, set};
-ghost use Rattle.tables.specs.Tables.{blank};
+ghost use Rattle.std.specs.Prelude.{◌≡◌, set};
 ghost use Rattle.pps_syntax.specs.SliceTables.{bits_of_delta, delta_of_bits};
 ghost use Rattle.pps_syntax.specs.FromRecord.{lengths_fit};
-ghost use Rattle.pps_tables.specs.Rows.{no_entry};
 
 use pps_record::lengths;
-use tables::clear;
 use tables::places::put;
 
 mod lent;
@@ -79,11 +76,4 @@ pub struct RectSliceEntry {
     pub split_count: u32,
     pub delta_present: u32,
     pub delta: i32,
-}
-
-// Every row becomes zeros.
-pub fn clear_rows(entries: &mut [[u32; ENTRY_LEN]])
-    ensures { entries.new ≡ blank (length entries.old) no_entry }
-{
-    clear(entries, [0; ENTRY_LEN]);
 }

@@ -20,8 +20,7 @@ use Rattle.tables.specs.Tables.{over, sets_over}
 use Rattle.bit_writer.specs.Answers.{answered, written_answer, written_out, out-kept}
 use Rattle.bit_writer.specs.Closing.{Ran, plain_ran, nal_ran}
 use Rattle.bit_writer.specs.Writing.{Writing, with_refusal, play, closed}
-use Rattle.bit_writer.specs.Stop.{play_on}
-use Rattle.bit_writer.proofs.Ended.{on_refusal, on_whole}
+use Rattle.bit_writer.specs.Stop.{play_on, on_refusal, on_whole}
 use Rattle.pps_record.specs.declared.VvcPps.{VvcPps}
 use Rattle.pps_record.specs.declared.VvcQpOffsets.{VvcQpOffsets}
 use Rattle.pps_syntax.specs.FromRecord.{Lent, set_from, extension_from, tables_long, counts_fit, extension_lent}

@@ -15,8 +15,7 @@ use pps_record::VvcPpsPartition;
 use pps_tables::SliceTables;
 use refusal::Refusal;
 use slice_loop::SliceIdx;
-use tables::places::at_most;
-use tile_sizes::{MAX_NUM_SLICES_MINUS1, MAX_TILE_COLUMNS, MAX_TILES};
+use tile_sizes::MAX_NUM_SLICES_MINUS1;
 
 // Rectangular slices are coded.
 pub fn slices_coded(p: &VvcPpsPartition) -> bool
@@ -60,15 +59,13 @@ pub fn slicing_refusal(
 ) -> Result<(), Refusal>
     ensures { refused result ≡ declined_with (sliced_in (grid_in sizes.now) p.now (slices_of slices.entry)) }
 {
-    let columns = at_most(sizes.num_tile_columns, MAX_TILE_COLUMNS as usize);
-    let rows = at_most(sizes.num_tile_rows, MAX_TILES as usize);
-    before_loop(rows as u64 * columns as u64, p)?;
+    before_loop(sizes.num_tiles(), p)?;
     if !slices_coded(p) {
         return Ok(());
     }
     walk_refusal(
-        &sizes.column_widths[..columns],
-        &sizes.row_heights[..rows],
+        sizes.column_widths(),
+        sizes.row_heights(),
         p.pps_tile_idx_delta_present_flag != 0,
         SliceIdx(p.pps_num_slices_in_pic_minus1),
         p.num_rect_slices,

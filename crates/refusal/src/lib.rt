@@ -71,6 +71,7 @@ pub enum Refusal {
 
 impl Refusal {
     // The number by which C knows it, 1 to 29.
+    #[tactic(auto, using(crate::proofs::Numbers::tagged))]
     pub fn number(self) -> u8
         ensures { result ≡ number self }
     {

@@ -15,9 +15,3 @@ pub fn put<T: Copy>(table: &mut [T], at: usize, value: T)
         table[at] = value;
     }
 }
-
-pub fn put_u32(numbers: &mut [u32], i: u32, v: u32)
-    ensures { numbers.new ≡ set numbers.old i v }
-{
-    put(numbers, i as usize, v);
-}

@@ -14,7 +14,7 @@ use borrow.Author.Tests.{ltb-false}
 use Rattle.partition.specs.Axis.{boundary, boundary_le, span}
 use Rattle.partition.proofs.Axis.{boundary-suc, boundary_mono}
 use Rattle.partition.specs.Entry.{Entry, Position, asking, first_position, tile_x, tile_y, split_coded, split_heights, last_slice_of, next_tile, next_position}
-use Rattle.partition.specs.Grid.{Grid, grid_with, tiles, max_tile_columns, max_tiles, max_slices_minus1, max_slices}
+use Rattle.partition.specs.Grid.{Grid, grid_with, tiles, max_slices_minus1, max_slices}
 use Rattle.partition.specs.Groups.{Group, stacked, group_slices, plan, stacked-length}
 use Rattle.partition.specs.Placed.{Step, step, End, to-bottom-right, used_by-split, end, Passed, tile_x-lt, tile_y-lt, split_flat, placed_same}
 use Rattle.partition.proofs.Placed.{entry-passed, row-span, entry-slices, some_piece, walk-slices}
@@ -528,43 +528,30 @@ module _ {ws hs : List ℕ} {d : Bool} {N : ℕ} {t : SliceTables} {n : ℕ} {P 
         let b : groups ≡ length ps = D.count ∙ ap length all-is in
         rw (a, b, plan-made, groups-made)
 
--- ---- in the fronts of the tables that hold the grid
+-- ---- in the columns and rows in use of the sizes that hold the grid
 
-module _ {s : GridSizes} {p : VvcPpsPartition} {t : SliceTables} {g : Grid} {ps : List Group} (A : AcceptedIn s p t g ps) where
-  abbrev columns-used : List ℕ
-  columns-used = take s.num_tile_columns s.column_widths
-
-  abbrev rows-used : List ℕ
-  rows-used = take s.num_tile_rows s.row_heights
-
-  columns-are : columns-used ≡ g.column_widths
+module _ {s : GridSizes} {p : VvcPpsPartition} {t : SliceTables} {g : Grid} {ps : List Group} (A : AcceptedIn s p t g ps)
+    {ws hs : List ℕ} (W : ws ≡ take s.num_tile_columns s.column_widths) (H : hs ≡ take s.num_tile_rows s.row_heights) where
+  columns-are : ws ≡ g.column_widths
   unfolding grid_of_sizes table_of
-  columns-are = rw A.held (take-append_seam g.column_widths _)
+  columns-are = W ∙ rw A.held (take-append_seam g.column_widths _)
 
-  rows-are : rows-used ≡ g.row_heights
+  rows-are : hs ≡ g.row_heights
   unfolding grid_of_sizes table_of
-  rows-are = rw A.held (take-append_seam g.row_heights _)
+  rows-are = H ∙ rw A.held (take-append_seam g.row_heights _)
 
-  grid-is : grid_with columns-used rows-used ≡ g
+  grid-is : grid_with ws hs ≡ g
   grid-is = rw (columns-are, rows-are)
 
-  pub columns-in-use : s.num_tile_columns ≤ max_tile_columns
-  unfolding grid_of_sizes
-  columns-in-use = rw A.held A.few-columns
-
-  pub rows-in-use : s.num_tile_rows ≤ max_tiles
-  unfolding grid_of_sizes
-  rows-in-use = rw A.held A.proper.row_sizes.few
-
-  pub accepted-columns : ProperSizes columns-used
+  pub accepted-columns : ProperSizes ws
   accepted-columns = rw columns-are A.proper.column_sizes
 
-  pub accepted-rows : ProperSizes rows-used
+  pub accepted-rows : ProperSizes hs
   accepted-rows = rw rows-are A.proper.row_sizes
 
-  pub accepted-some : {cs rs : List ℕ} → StartsAt columns-used cs → StartsAt rows-used rs
-      → StartsAt columns-used cs × StartsAt rows-used rs × (0 < length rows-used * length columns-used) × (p.pps_num_slices_in_pic_minus1 ≤ max_slices_minus1) × ((ps : List Group) × (walked (grid_with columns-used rows-used) p t ≡ placed ps))
+  pub accepted-some : {cs rs : List ℕ} → StartsAt ws cs → StartsAt hs rs
+      → StartsAt ws cs × StartsAt hs rs × (0 < length hs * length ws) × (p.pps_num_slices_in_pic_minus1 ≤ max_slices_minus1) × ((ps : List Group) × (walked (grid_with ws hs) p t ≡ placed ps))
   accepted-some c r = (c, r, rw (columns-are, rows-are) A.proper.some-tile, A.few, (ps, rw grid-is A.walks))
 
-  pub accepted-made : (x : Placed) → ((ps : List Group) → walked (grid_with columns-used rows-used) p t ≡ placed ps → x ≡ placed_of (plan (grid_with columns-used rows-used) ps) ps) → x ≡ placed_of (plan g ps) ps
+  pub accepted-made : (x : Placed) → ((ps : List Group) → walked (grid_with ws hs) p t ≡ placed ps → x ≡ placed_of (plan (grid_with ws hs) ps) ps) → x ≡ placed_of (plan g ps) ps
   accepted-made x f = rw grid-is at (f ps (rw grid-is A.walks))

@@ -10,7 +10,7 @@ ghost use Rattle.tile_grid.specs.GridQuestion.{of_record, SumsFit};
 ghost use Rattle.tile_grid.specs.Placed.{has_slices};
 ghost use Rattle.tile_grid.specs.PlanQuestion.{slice_plan, SliceCover};
 
-use grid_sizes::{GridSizes, grid_sizes, sizes_in_tables};
+use grid_sizes::{GridSizes, grid_sizes};
 use placed::accepted_slices;
 use pps_record::{VvcPps, VvcPpsPartition};
 use pps_tables::LentTables;
@@ -142,14 +142,12 @@ impl TileGrid {
         if p.present == 0 {
             return Ok(TileGrid::NONE);
         }
-        let sizes = sizes_in_tables(
+        let sizes = grid_sizes(
             pps.pps_pic_width_in_luma_samples,
             pps.pps_pic_height_in_luma_samples,
             p.pps_log2_ctu_size_minus5,
-            lent.tile_column_widths,
-            p.num_tile_column_widths,
-            lent.tile_row_heights,
-            p.num_tile_row_heights,
+            lent.column_widths(p.num_tile_column_widths),
+            lent.row_heights(p.num_tile_row_heights),
         )?;
         slicing_refusal(&sizes, p, lent.slices)?;
         Ok(TileGrid { sizes })

@@ -54,8 +54,8 @@ pub fn accepted_slices(sizes: &GridSizes, p: &VvcPpsPartition, tables: SliceTabl
     ensures { (g : Grid) (ps : List Group) → AcceptedIn sizes.now p.now (slices_of tables.entry) g ps
         → result ≡ placed_of (plan g ps) ps }
 {
-    let column_widths = &sizes.column_widths[..sizes.num_tile_columns as usize];
-    let row_heights = &sizes.row_heights[..sizes.num_tile_rows as usize];
+    let column_widths = sizes.column_widths();
+    let row_heights = sizes.row_heights();
     let column_starts = starts_of(column_widths);
     let row_starts = starts_of(row_heights);
     place_slices(

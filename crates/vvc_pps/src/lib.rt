@@ -64,17 +64,22 @@ pub struct VvcUeSize {
     pub bits: u32,
 }
 
+impl From<Result<usize, u8>> for VvcByteCount {
+    ghost from_gives = { λ answer count. count ≡ byte_count answer };
+
+    fn from(answer: Result<usize, u8>) -> VvcByteCount {
+        match answer {
+            Ok(bytes) => VvcByteCount { refused: 0, bytes },
+            Err(refused) => VvcByteCount { refused, bytes: 0 },
+        }
+    }
+}
+
 impl From<Result<usize, Refusal>> for VvcByteCount {
     ghost from_gives = { λ answer count. count ≡ count_of answer };
 
     fn from(answer: Result<usize, Refusal>) -> VvcByteCount {
-        match answer {
-            Ok(bytes) => VvcByteCount { refused: 0, bytes },
-            Err(refusal) => VvcByteCount {
-                refused: refusal.number(),
-                bytes: 0,
-            },
-        }
+        VvcByteCount::from(answer.map_err(|refusal| refusal.number()))
     }
 }
 
@@ -243,11 +248,5 @@ pub extern "C" fn vvc_close(w: Sink, out: &mut [u8]) -> Sink
 pub extern "C" fn vvc_sink_answer(w: Sink, room: usize) -> VvcByteCount
     ensures { result ≡ byte_count (answer_of w room) }
 {
-    match w.answer(room) {
-        Ok(put) => VvcByteCount {
-            refused: 0,
-            bytes: put,
-        },
-        Err(refused) => VvcByteCount { refused, bytes: 0 },
-    }
+    VvcByteCount::from(w.answer(room))
 }

@@ -23,23 +23,14 @@ pub loop-b-init : goal.loop-b-init
 unfolding unescape
 loop-b-init c = (omega arith, put_start _ _)
 
-pub bounds-out-put : goal.bounds-out-put
-bounds-out-put c = omega (arith, c.loop-b.invariant.1.same)
-
 pub loop-b-preserved-then-b-gt3 : goal.loop-b-preserved-then-b-gt3
 loop-b-preserved-then-b-gt3 c = (omega arith, put_byte c.loop-b.invariant.1 (unescape-over c.args.ebsp.now c.loop-b.z c.loop-b.b-index (omega arith) c.if-b-gt3.true))
-
-pub bounds-out-put-then-not-is_escape : goal.bounds-out-put-then-not-is_escape
-bounds-out-put-then-not-is_escape c = omega (arith, c.loop-b.invariant.1.same)
 
 pub loop-b-preserved-then-not-is_escape : goal.loop-b-preserved-then-not-is_escape
 loop-b-preserved-then-not-is_escape c = rw c.zero_run-z.ensures (omega arith, put_byte c.loop-b.invariant.1 (unescape-kept c.args.ebsp.now c.loop-b.z c.loop-b.b-index (omega arith) (sym c.is_escape.ensures ∙ c.if-not-is_escape.true)))
 
 pub loop-b-preserved : goal.loop-b-preserved
 loop-b-preserved c = (omega arith, put-none c.loop-b.invariant.1 (unescape_dropped c.args.ebsp.now c.loop-b.z c.loop-b.b-index (omega arith) (sym c.is_escape.ensures ∙ c.if-not-is_escape.false)))
-
-pub shape_of-out : goal.shape_of-out
-shape_of-out c = c.loop-b.invariant.1.same
 
 pub returns : goal.returns
 returns c = let all = put-done c.loop-b.invariant.1 (unescape-end c.args.ebsp.now c.loop-b.z c.loop-b.b-index (omega arith)) (le_trans (unescape-length _) c.if-out-ebsp.false) in

@@ -1,8 +1,7 @@
 -- Escaping makes three bytes of two at the most, so with half as much room again they fit.
-use Prim.Native.Nat.{ℕ, ◌≤◌}
+use Prim.Native.Nat.{◌≤◌}
 use native.Mathlib.Omega.{arith}
-use mathlib.Core.Path.{sym, ap}
-use lib.Dec.{leb}
+use mathlib.Core.Path.{sym}
 use lib.ListN.{length}
 use borrow.Author.Tests.{le-leb}
 use Rattle.nal.specs.Escape.{escape}
@@ -11,6 +10,3 @@ use Rattle.nal.proofs.fits_in.Goals as goal
 
 pub returns-then-most-room : goal.returns-then-most-room
 returns-then-most-room c = let h : length (escape c.args.rbsp.now) ≤ c.args.room = omega (arith, escape-length c.args.rbsp.now) in sym (le-leb _ _ h)
-
-pub returns : goal.returns
-returns c = ap (λ (n : ℕ). leb n c.args.room) c.escaped_len.ensures

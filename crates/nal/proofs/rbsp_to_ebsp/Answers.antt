@@ -13,8 +13,5 @@ returns-then-rbsp-gt-MAX_BYTES c = let long : 65535 < length c.args.rbsp.now = o
 pub returns-then-not-fits_in : goal.returns-then-not-fits_in
 returns-then-not-fits_in c = let right = escape-short c.args.rbsp.now c.args.out.now c.if-rbsp-gt-MAX_BYTES.false (leb-false _ _ (sym c.fits_in.ensures ∙ c.if-not-fits_in.true)) in record { value = sym right.0; out_after = sym right.1 }
 
-pub escape_into-requires : goal.escape_into-requires
-escape_into-requires c = leb-true _ _ (sym c.fits_in.ensures ∙ c.if-not-fits_in.false)
-
 pub returns : goal.returns
 returns c = let right = escape-done c.args.rbsp.now c.args.out.now c.if-rbsp-gt-MAX_BYTES.false (leb-true _ _ (sym c.fits_in.ensures ∙ c.if-not-fits_in.false)) in record { value = ap Ok c.escape_into.ensures.value ∙ sym right.0; out_after = c.escape_into.ensures.out_after ∙ sym right.1 }

@@ -3,7 +3,7 @@ use mathlib.Core.List.{List}
 use mathlib.Core.Path.{◌≡◌, refl, sym, ap, ap₂, ◌∙◌}
 use Rattle.nal.specs.Escape.{zero_run}
 use Rattle.bit_writer.specs.declared.BitWriter.{BitWriter}
-use Rattle.bit_writer.specs.Writing.{Writing, behind_byte, put_raw, put_byte}
+use Rattle.bit_writer.specs.Writing.{Writing, behind_byte, put_raw}
 use Rattle.bit_writer.specs.Written.{written}
 use Rattle.bit_writer.proofs.Steps.{byte_plain, byte-escaped, byte-kept}
 use Rattle.bit_writer.proofs.BitWriter.put_byte.Goals as goal

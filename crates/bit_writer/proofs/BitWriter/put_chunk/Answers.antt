@@ -1,5 +1,3 @@
-use Prim.Native.Nat.{◌<◌}
-use mathlib.Core.Path.{◌∙◌}
 use native.Mathlib.Omega.{arith}
 use Rattle.bit_writer.proofs.Chunked.{power, made_open, made-whole}
 use Rattle.bit_writer.proofs.BitWriter.put_chunk.Goals as goal

@@ -8,4 +8,4 @@ use Rattle.bit_writer.proofs.BitWriter.put_copy.Given as goal
 
 abbrev pub invariant-loop-i : goal.invariant-loop-i
 invariant-loop-i l = (l.a ≡ bits_at l.src (l.i * 8) 8)
-    × (feed (written l.self l.out) (bit_list l.src (l.i * 8 + l.from % 8) ((l.end - l.i) * 8 + l.count % 8)) ≡ feed (written l.initial.self l.initial.out) (bit_list l.src l.from l.count))
+    × (feed (written l.w l.out) (bit_list l.src (l.i * 8 + l.from % 8) ((l.end - l.i) * 8 + l.count % 8)) ≡ feed (written l.initial.w l.initial.out) (bit_list l.src l.from l.count))

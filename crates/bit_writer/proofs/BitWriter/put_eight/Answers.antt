@@ -1,6 +1,5 @@
 use Prim.Native.Nat.{◌-◌, ◌%◌}
 use native.Mathlib.Omega.{arith}
-use lib.Pow.{shl_exact, pow_pos, pow_mono}
 use Rattle.bit_writer.proofs.Copying.{put-made}
 use Rattle.bit_writer.proofs.Chunked.{power}
 use Rattle.bit_writer.proofs.BitWriter.put_eight.Goals as goal

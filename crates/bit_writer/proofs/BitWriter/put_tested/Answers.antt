@@ -1,9 +1,8 @@
 use mathlib.Core.Path.{refl, ap, ◌∙◌}
 use mathlib.Core.Bool.{Bool}
-use lib.Dec.{ltb}
 use Rattle.refusal.specs.Numbers.{number}
 use Rattle.codes.specs.ExpGolomb.{ue_code}
-use Rattle.codes.specs.Symbols.{check, checked}
+use Rattle.codes.specs.Symbols.{check}
 use Rattle.bit_writer.specs.Stop.{play_on}
 use Rattle.bit_writer.specs.Written.{written}
 use Rattle.bit_writer.proofs.Ended.{at_err}

@@ -1,6 +1,6 @@
 -- The bits still to come, fed to what is there, are all the bits fed to what was there.
 use Prim.Native.Nat.{◌-◌}
-use mathlib.Core.Path.{refl, sym, ap, ◌∙◌}
+use mathlib.Core.Path.{sym, ap, ◌∙◌}
 use native.Mathlib.Omega.{arith}
 use Rattle.codes.specs.Bits.{to_bits}
 use Rattle.bit_writer.specs.Writing.{Writing, feed}

@@ -1,6 +1,4 @@
-use mathlib.Core.Path.{ap}
 use borrow.Author.Tests.{eq-eqb, ne_eqb, lt-ltb, le-ltb}
-use Rattle.std.specs.Prelude.{ℕ, Err, Result}
 use Rattle.refusal.specs.Numbers.{number}
 use Rattle.bit_writer.specs.Answers.{answer_of, answered}
 use Rattle.bit_writer.proofs.Sink.answer.Goals as goal

@@ -2,4 +2,4 @@ use Rattle.bit_writer.proofs.ByValue.{bits-kept}
 use Rattle.bit_writer.proofs.Sink.put_bits.Goals as goal
 
 pub returns : goal.returns
-returns c = bits-kept c.args.self _ _ c.from-w.ensures _ c.put_bits.ensures c.of.ensures
+returns c = bits-kept c.args.self _ _ c.writer-w.ensures _ c.put_bits.ensures c.of.ensures

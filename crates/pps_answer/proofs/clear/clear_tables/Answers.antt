@@ -3,8 +3,8 @@ use Rattle.pps_answer.proofs.clear.clear_tables.Goals as goal
 
 pub returns : goal.returns
 returns c = tables-cleared _
-    c.clear_u32.ensures
-    c.clear_u32-2.ensures
-    c.clear_u32-3.ensures
-    c.clear_rows.ensures
-    c.clear_u32-4.ensures
+    c.clear.ensures
+    c.clear-2.ensures
+    c.clear-3.ensures
+    c.clear-4.ensures
+    c.clear-5.ensures

@@ -27,19 +27,19 @@ returns-then-p-eq0-clause-sums c = (omega arith, omega arith)
 
 pub returns-in_err-sizes-clause-grid : goal.returns-in_err-sizes-clause-grid
 unfolding refused with_number as_tile_grid sizes_of
-returns-in_err-sizes-clause-grid c = number_at_exit _ _ c.from_residual-in_err-sizes.ensures.1 ∙ ap grid_answer_of (sym (asked-grid _ _ c.in_ok-record_refusal.ensures c.if-p-eq0.false _ c.in_err-sizes.ensures))
+returns-in_err-sizes-clause-grid c = number_at_exit _ _ c.from_residual-in_err-sizes.ensures.1 ∙ ap grid_answer_of (sym (asked-grid _ _ c.in_ok-record_refusal.ensures c.if-p-eq0.false _ (c.in_err-sizes.ensures ∙ rw (c.column_widths.ensures, c.row_heights.ensures))))
 
 pub returns-in_err-slicing_refusal-clause-grid : goal.returns-in_err-slicing_refusal-clause-grid
 unfolding refused with_number as_tile_grid sizes_of
-returns-in_err-slicing_refusal-clause-grid c = number_at_exit _ _ c.from_residual-in_err-slicing_refusal.ensures.1 ∙ ap grid_answer_of (sym (asked-slices _ _ c.in_ok-record_refusal.ensures c.if-p-eq0.false _ c.in_ok-sizes.ensures _ c.in_err-slicing_refusal.ensures (number_above0 _)))
+returns-in_err-slicing_refusal-clause-grid c = number_at_exit _ _ c.from_residual-in_err-slicing_refusal.ensures.1 ∙ ap grid_answer_of (sym (asked-slices _ _ c.in_ok-record_refusal.ensures c.if-p-eq0.false _ (c.in_ok-sizes.ensures ∙ rw (c.column_widths.ensures, c.row_heights.ensures)) _ c.in_err-slicing_refusal.ensures (number_above0 _)))
 
 pub returns-clause-grid : goal.returns-clause-grid
 unfolding refused with_number as_tile_grid
-returns-clause-grid c = ap as_tile_grid (sym (asked-accepted _ _ c.in_ok-record_refusal.ensures c.if-p-eq0.false _ c.in_ok-sizes.ensures c.in_ok-slicing_refusal.ensures))
+returns-clause-grid c = ap as_tile_grid (sym (asked-accepted _ _ c.in_ok-record_refusal.ensures c.if-p-eq0.false _ (c.in_ok-sizes.ensures ∙ rw (c.column_widths.ensures, c.row_heights.ensures)) c.in_ok-slicing_refusal.ensures))
 
 pub returns-clause-sums : goal.returns-clause-sums
 unfolding refused with_number
 returns-clause-sums c =
     let w : c.args.pps.now.pps_pic_width_in_luma_samples ≤ 4294967295 = omega arith in
     let h : c.args.pps.now.pps_pic_height_in_luma_samples ≤ 4294967295 = omega arith in
-    sums-fit _ _ c.in_ok-record_refusal.ensures c.if-p-eq0.false _ c.in_ok-sizes.ensures w h
+    sums-fit _ _ c.in_ok-record_refusal.ensures c.if-p-eq0.false _ (c.in_ok-sizes.ensures ∙ rw (c.column_widths.ensures, c.row_heights.ensures)) w h
