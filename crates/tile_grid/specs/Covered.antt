@@ -121,14 +121,7 @@ module _ (r : VvcPps) (t : Lent) (a : TileGrid) (e : Ok a ≡ of_record r t) whe
         ) at fit
 
     accepted : AcceptedIn a.sizes r.partition t.slices (grid r t) planned.groups
-    accepted =
-        record {
-          held = sizes-are;
-          proper = proper r t planned.ok sums;
-          few-columns = fitting.wide;
-          few = planned.few;
-          walks = planned.walks;
-        }
+    accepted = record { held = sizes-are; proper = proper r t planned.ok sums; few = planned.few; walks = planned.walks }
 
     pub some-accepted : (g : Grid) × ((ps : List Group) × AcceptedIn a.sizes r.partition t.slices g ps)
     some-accepted = (grid r t, (planned.groups, accepted))

@@ -1,7 +1,7 @@
 -- What is placed of a partition in a grid: its slices in CTBs, and the groups of tiles that they are cut from.
 use Rattle.std.specs.Prelude.{◌≤◌, ◌<◌, ◌≡◌, Bool, ◌&&◌, List, map, length}
 use Rattle.grid_sizes.specs.declared.GridSizes.{GridSizes}
-use Rattle.partition.specs.Grid.{Grid, tiles, columns, max_tile_columns, max_slices_minus1}
+use Rattle.partition.specs.Grid.{Grid, tiles, max_slices_minus1}
 use Rattle.partition.specs.Groups.{Group}
 use Rattle.partition.specs.Slices.{Slice}
 use Rattle.partition.specs.Walk.{placed}
@@ -33,6 +33,5 @@ has_slices p = is_set p.present && coded p.pps_rect_slice_flag p.pps_single_slic
 pub record AcceptedIn (s : GridSizes) (p : VvcPpsPartition) (t : SliceTables) (g : Grid) (ps : List Group) : Type 0 where
   pub held : s ≡ grid_of_sizes g.column_widths g.row_heights
   pub proper : Proper g
-  pub few-columns : columns g ≤ max_tile_columns
   pub few : p.pps_num_slices_in_pic_minus1 ≤ max_slices_minus1
   pub walks : walked g p t ≡ placed ps

@@ -70,11 +70,10 @@ module _ {ws hs cs rs : List ℕ} (C : StartsAt ws cs) (R : StartsAt hs rs) (x y
         ap (boundary hs) e,
       )
 
-  pub group_fits : 1 ≤ h → Fit es (span hs y h) → slice + length (split_heights es (span hs y h)) ≤ max_slices → (P : List SliceRect) → length P ≡ max_slices
+  pub group_fits : 1 ≤ h → Fit es (span hs y h) → slice + length (split_heights es (span hs y h)) ≤ max_slices
       → (x + w < length cs) × (y + h < length rs) × (get_or cs x 0 ≤ get_or cs (x + w) 0) × (get_or rs y 0 < get_or rs (y + h) 0) × Fit es (get_or rs (y + h) 0 - get_or rs y 0)
       × (slice + length (split_heights es (get_or rs (y + h) 0 - get_or rs y 0)) ≤ max_slices) × (x + w ≤ 4294967295) × (y + h ≤ 4294967295) × (get_or rs (y + h) 0 ≤ 4294967295)
-      × (length P ≡ max_slices)
-  group_fits s f l P n = (
+  group_fits s f l = (
     omega (arith, C.long, C.few),
     omega (arith, R.long, R.few),
     omega (arith, C.each x (omega arith), C.each (x + w) wide, boundary_mono ws x w),
@@ -84,7 +83,6 @@ module _ {ws hs cs rs : List ℕ} (C : StartsAt ws cs) (R : StartsAt hs rs) (x y
     omega (arith, C.few),
     omega (arith, R.few),
     omega (arith, R.each (y + h) tall, boundary_le hs (y + h), R.fits),
-    n,
   )
 
   pub group_stacked : stacked (get_or cs x 0) (get_or cs (x + w) 0 - get_or cs x 0) (get_or rs y 0) (split_heights es (get_or rs (y + h) 0 - get_or rs y 0))
@@ -278,13 +276,13 @@ module _ {ws hs : List ℕ} {d : Bool} {N : ℕ} {t : SliceTables} {n : ℕ} {P�
     Fits cs rs x y =
         (x + (e.width + 1) < length cs) × (y + (e.height + 1) < length rs) × (get_or cs x 0 ≤ get_or cs (x + (e.width + 1)) 0) × (get_or rs y 0 < get_or rs (y + (e.height + 1)) 0)
         × Fit es (get_or rs (y + (e.height + 1)) 0 - get_or rs y 0) × (slice + length (split_heights es (get_or rs (y + (e.height + 1)) 0 - get_or rs y 0)) ≤ max_slices) × (x + (e.width + 1) ≤ 4294967295)
-        × (y + (e.height + 1) ≤ 4294967295) × (get_or rs (y + (e.height + 1)) 0 ≤ 4294967295) × (length P ≡ max_slices)
+        × (y + (e.height + 1) ≤ 4294967295) × (get_or rs (y + (e.height + 1)) 0 ≤ 4294967295)
 
     module _ {cs rs : List ℕ} (C : StartsAt ws cs) (R : StartsAt hs rs) (x y : ℕ) (x-is : x ≡ tile_x (length ws) tile) (y-is : y ≡ tile_y (length ws) tile) where
-      pub placing_fits : N ≤ max_slices_minus1 → length P₀ ≡ max_slices → Fits cs rs x y
-      placing_fits few long =
+      pub placing_fits : N ≤ max_slices_minus1 → Fits cs rs x y
+      placing_fits few =
           rw (x-is, y-is)
-          (group_fits C R (tile_x (length ws) tile) (tile_y (length ws) tile) (e.width + 1) (e.height + 1) slice es placing_wide placing_tall (omega arith) heights-fit (omega (arith, counted-on)) P (plan_length ∙ long))
+          (group_fits C R (tile_x (length ws) tile) (tile_y (length ws) tile) (e.width + 1) (e.height + 1) slice es placing_wide placing_tall (omega arith) heights-fit (omega (arith, counted-on)))
 
       module _ (slice' : ℕ) (slice_is : slice' ≡ slice + length (split_heights es (get_or rs (y + (e.height + 1)) 0 - get_or rs y 0))) (P' : List SliceRect)
           (P-is : P' ≡ put_plan P slice (stacked (get_or cs x 0) (get_or cs (x + (e.width + 1)) 0 - get_or cs x 0) (get_or rs y 0) (split_heights es (get_or rs (y + (e.height + 1)) 0 - get_or rs y 0))))
@@ -411,14 +409,13 @@ module _ {ws hs : List ℕ} {d : Bool} {N : ℕ} {t : SliceTables} {n : ℕ} {P�
       slice-last = omega (arith, H.counted, ap length bottom-is, bottom-count)
 
       module _ {cs rs : List ℕ} (SC : StartsAt ws cs) (SR : StartsAt hs rs) (x y w h : ℕ) (x-is : x ≡ X) (y-is : y ≡ Y) (w-is : w ≡ C - X) (h-is : h ≡ R - Y) (es : List ℕ) (es-is : es ≡ []) where
-        pub last_fits : N ≤ max_slices_minus1 → length P₀ ≡ max_slices
+        pub last_fits : N ≤ max_slices_minus1
             → (x + w < length cs) × (y + h < length rs) × (get_or cs x 0 ≤ get_or cs (x + w) 0) × (get_or rs y 0 < get_or rs (y + h) 0) × Fit es (get_or rs (y + h) 0 - get_or rs y 0)
             × (slice + length (split_heights es (get_or rs (y + h) 0 - get_or rs y 0)) ≤ max_slices) × (x + w ≤ 4294967295) × (y + h ≤ 4294967295) × (get_or rs (y + h) 0 ≤ 4294967295)
-            × (length P ≡ max_slices)
         unfolding sum explicit_sizes
-        last_fits few long =
+        last_fits few =
             rw (x-is, y-is, w-is, h-is, es-is)
-            (group_fits SC SR X Y (C - X) (R - Y) slice [] (omega (arith, left_is)) (omega (arith, down_is)) (omega (arith, tile_y-lt g tile on)) (omega arith) (omega (arith, one)) P (plan_length ∙ long))
+            (group_fits SC SR X Y (C - X) (R - Y) slice [] (omega (arith, left_is)) (omega (arith, down_is)) (omega (arith, tile_y-lt g tile on)) (omega arith) (omega (arith, one)))
 
         module _ (slice' : ℕ) (slice_is : slice' ≡ slice + length (split_heights es (get_or rs (y + h) 0 - get_or rs y 0))) (P' : List SliceRect)
             (P-is : P' ≡ put_plan P slice (stacked (get_or cs x 0) (get_or cs (x + w) 0 - get_or cs x 0) (get_or rs y 0) (split_heights es (get_or rs (y + h) 0 - get_or rs y 0)))) where

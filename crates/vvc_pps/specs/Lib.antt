@@ -2,3 +2,4 @@ pub mod Answers
 pub mod PpsAnswer
 pub mod QuestionAnswers
 pub mod Version
+pub mod Examples

@@ -1,6 +1,6 @@
-use mathlib.Core.Path.{ap, refl}
+use mathlib.Core.Path.{ap, refl, ◌∙◌}
 use native.Mathlib.Omega.{arith}
-use Rattle.tile_grid.specs.Placing.{placing_begins, placing_wide, placing_tall, placing_room, placing_fits, placing_goes-on, last_fits, with_last, without-last, all_placed, blank-long}
+use Rattle.tile_grid.specs.Placing.{placing_begins, placing_wide, placing_tall, placing_room, placing_fits, placing_goes-on, plan_length, last_fits, with_last, without-last, all_placed, blank-long}
 use Rattle.slice_loop.specs.declared.TileIdx.{TileIdx}
 use Rattle.tile_grid.specs.Starts.{tiles-small}
 use Rattle.tile_grid.proofs.place.place_slices.Goals as goal
@@ -19,13 +19,17 @@ pub bounds-placed-i : goal.bounds-placed-i
 bounds-placed-i c = omega (arith, placing_room c.loop-i.invariant c.loop-i-test.true _ _ c.entry-e.ensures c.split_heights_of-heights.ensures, c.requires.3)
 
 pub place_group-slice-requires : goal.place_group-slice-requires
-place_group-slice-requires c = placing_fits c.loop-i.invariant c.loop-i-test.true _ _ c.entry-e.ensures c.split_heights_of-heights.ensures c.requires.0 c.requires.1 _ _ c.place-at.ensures.0 c.place-at.ensures.1 c.requires.3 blank-long
+place_group-slice-requires c =
+    let f = placing_fits c.loop-i.invariant c.loop-i-test.true _ _ c.entry-e.ensures c.split_heights_of-heights.ensures c.requires.0 c.requires.1 _ _ c.place-at.ensures.0 c.place-at.ensures.1 c.requires.3 in
+    (f.0, f.1, f.2, f.3, f.4, f.5, f.6, f.7, f.8, plan_length c.loop-i.invariant ∙ blank-long)
 
 pub loop-i-preserved : goal.loop-i-preserved
 loop-i-preserved c = placing_goes-on c.loop-i.invariant c.loop-i-test.true _ _ c.entry-e.ensures c.split_heights_of-heights.ensures c.requires.0 c.requires.1 _ _ c.place-at.ensures.0 c.place-at.ensures.1 _ c.place_group-slice.ensures.next _ c.place_group-slice.ensures.slices _ (ap (λ (u : TileIdx). u.0) c.next_tile-tile.ensures) (tiles-small c.requires.0 c.requires.1)
 
 pub place_group-slice-requires-then-slice-n : goal.place_group-slice-requires-then-slice-n
-place_group-slice-requires-then-slice-n c = last_fits c.loop-i.invariant c.loop-i-test.false c.if-slice-n.true c.requires.0 c.requires.1 _ _ _ _ c.place-at-then-slice-n.ensures.0 c.place-at-then-slice-n.ensures.1 c.columns_left.ensures c.rows_left.ensures _ refl c.requires.3 blank-long
+place_group-slice-requires-then-slice-n c =
+    let f = last_fits c.loop-i.invariant c.loop-i-test.false c.if-slice-n.true c.requires.0 c.requires.1 _ _ _ _ c.place-at-then-slice-n.ensures.0 c.place-at-then-slice-n.ensures.1 c.columns_left.ensures c.rows_left.ensures _ refl c.requires.3 in
+    (f.0, f.1, f.2, f.3, f.4, f.5, f.6, f.7, f.8, plan_length c.loop-i.invariant ∙ blank-long)
 
 pub returns : goal.returns
 returns c = elim c.if-slice-n.branch [
