@@ -50,11 +50,11 @@ pub fn sizes_into(exp_minus1: &[u32], total: CtbCount, out: &mut [u32])
 {
     let uniform = exp_minus1[exp_minus1.len() - 1] + 1;
     let mut remaining = total.0;
-    let mut j = 0;
-    while remaining > 0 {
-        let s = next_size(exp_minus1, uniform, j, remaining);
-        out[j] = s;
-        remaining -= s;
-        j += 1;
+    for (j, place) in out.iter_mut().enumerate() {
+        if remaining == 0 {
+            break;
+        }
+        *place = next_size(exp_minus1, uniform, j, remaining);
+        remaining -= *place;
     }
 }
