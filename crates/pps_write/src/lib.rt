@@ -33,14 +33,6 @@ fn bits_inside(first: usize, count: usize, len: usize) -> bool
     first / 8 + count / 8 + (first % 8 + count % 8 + 7) / 8 <= len
 }
 
-// The bytes stand at the front of the output.
-fn copy_front(from: &[u8], out: &mut [u8])
-    requires { length from.now ≤ length out.old }
-    ensures { out.new ≡ from.now ++ drop (length from.now) out.old }
-{
-    out[..from.len()].copy_from_slice(from);
-}
-
 // A run over bytes of its own finds any refusal and counts the bytes, so that a refused write changes nothing. What
 // fits there is copied; a longer set is put by a second run.
 fn write_counted(
@@ -61,7 +53,7 @@ fn write_counted(
         return Err(Refusal::OutputTooShort);
     }
     if count <= 1024 {
-        copy_front(&short[..count], out);
+        out[..count].copy_from_slice(&short[..count]);
         return Ok(count);
     }
     put_set(out, form, pps, triples, tables, extension)

@@ -1,5 +1,6 @@
 use Prim.Native.Nat.{◌<◌, ◌^◌}
 use native.Mathlib.Omega.{arith}
+use Rattle.std.proofs.lemmas.Grind.{common_steps}
 use lib.ListN.{length}
 use Rattle.std.proofs.lemmas.Result.{err_from_is_err_and}
 use Rattle.pps_tables.specs.Lent.{lent_of}
@@ -20,7 +21,7 @@ pub returns-then-count-le1024 : goal.returns-then-count-le1024
 returns-then-count-le1024 c =
     let a = c.args in
     let small : length a.out.now < 2 ^ 63 = omega arith in
-    counted-copied (is_nal a.form) a.pps.now a.triples.now (lent_of a.tables) a.extension.now a.out.now c.in_ok-count.ensures small c.if-room-count.false (omega arith) c.copy_front.ensures
+    counted-copied (is_nal a.form) a.pps.now a.triples.now (lent_of a.tables) a.extension.now a.out.now c.in_ok-count.ensures small c.if-room-count.false (omega arith) (grind (arith, common_steps))
 
 pub returns : goal.returns
 returns c =
