@@ -2,20 +2,18 @@
 // write_partition).
 #![tactic(auto)]
 
-ghost use Rattle.std.specs.Prelude.{◌≡◌, ◌≤◌, length};
+ghost use Rattle.std.specs.Prelude.{◌≡◌};
 ghost use Rattle.bit_writer.specs.Stop.{play_on};
 ghost use Rattle.bit_writer.specs.Written.{written, ended};
 ghost use Rattle.syntax.specs.Syntax.{symbols_for};
 ghost use Rattle.pps_syntax.specs.FromRecord.{block_from};
 ghost use Rattle.pps_syntax.specs.PartitionSyntax.{partition};
-ghost use Rattle.pps_syntax.specs.SliceTables.{slices_from};
-ghost use Rattle.pps_tables.specs.Lent.{slices_of, lent_of};
-ghost use Rattle.pps_put_partition.specs.Rest.{block_with};
+ghost use Rattle.pps_tables.specs.Lent.{lent_of};
 
 use bit_writer::BitWriter;
 use grid_sizes::grid_sizes;
 use pps_record::VvcPpsPartition;
-use pps_tables::{LentTables, SliceTables};
+use pps_tables::LentTables;
 use refusal::Refusal;
 use slicing::put_slicing;
 use tiles::put_tile_sizes;
@@ -23,29 +21,6 @@ use tiles::put_tile_sizes;
 mod flags;
 mod slicing;
 mod tiles;
-
-// The block over its explicit tile sizes.
-fn put_block(
-    w: &mut BitWriter,
-    out: &mut [u8],
-    pic_width: u32,
-    pic_height: u32,
-    p: &VvcPpsPartition,
-    widths: &[u32],
-    heights: &[u32],
-    slices: SliceTables<'_>,
-) -> Result<(), Refusal>
-    requires { (length widths.now ≤ 4294967295) × (length heights.now ≤ 4294967295) }
-    ensures { let entries = slices_from (slices_of slices.entry) 0 0 p.now.num_rect_slices in
-        let block = block_with p.now widths.now heights.now entries in
-        ended w.new out.new result
-        ≡ play_on (written w.old out.old) (symbols_for (partition pic_width pic_height) block) }
-{
-    let ctu = p.pps_log2_ctu_size_minus5;
-    put_tile_sizes(w, out, pic_width, pic_height, ctu, widths, heights)?;
-    let grid = grid_sizes(pic_width, pic_height, ctu, widths, heights)?;
-    put_slicing(w, out, &grid, p, slices)
-}
 
 // The partition block of a picture of so many luma samples; refused with 9 to 19, 25, 26 in the order of the
 // description. The explicit sizes and the entries are the first so many of their tables.
@@ -61,14 +36,10 @@ pub fn put_partition(
         ended w.new out.new result
         ≡ play_on (written w.old out.old) (symbols_for (partition pic_width pic_height) block) }
 {
-    put_block(
-        w,
-        out,
-        pic_width,
-        pic_height,
-        p,
-        tables.column_widths(p.num_tile_column_widths),
-        tables.row_heights(p.num_tile_row_heights),
-        tables.slices,
-    )
+    let ctu = p.pps_log2_ctu_size_minus5;
+    let widths = tables.column_widths(p.num_tile_column_widths);
+    let heights = tables.row_heights(p.num_tile_row_heights);
+    put_tile_sizes(w, out, pic_width, pic_height, ctu, widths, heights)?;
+    let grid = grid_sizes(pic_width, pic_height, ctu, widths, heights)?;
+    put_slicing(w, out, &grid, p, tables.slices)
 }
