@@ -26,6 +26,7 @@ fn by_rule(v: u32) -> u32
 }
 
 // 4294967295 has no code.
+#[tactic(auto, unfolding(crate::specs::UeSize::ue_size_of))]
 pub fn ue_size(v: u32) -> Result<u32, Refusal>
     ensures { result ≡ ue_size_of v }
 {

@@ -17,6 +17,7 @@ pub struct VvcNalHeader {
 }
 
 // Forbidden and reserved bits are handed back, not tested.
+#[tactic(auto, unfolding(crate::specs::Header::header_of))]
 pub fn parse_nal_header(nal: &[u8]) -> Result<VvcNalHeader, Refusal>
     ensures { result ≡ header_of nal.now }
 {

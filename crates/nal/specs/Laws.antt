@@ -1,7 +1,7 @@
 -- One step of escaping and of unescaping, in each of its cases, and escaping in parts.
 use Rattle.std.specs.Prelude.{ℕ, ◌+◌, ◌≤◌, ◌<◌, min, Bool, true, false, ◌&&◌, List, [], ◌∷◌, ◌++◌, ◌≡◌, refl, leb, eqb}
 use Rattle.std.proofs.Common.{arith, append_assoc, append-nil, sym, ap, ◌∙◌, leb-true, leb-false, le-leb, eqb-true, ne_eqb}
-use Rattle.std.proofs.lemmas.Bool.{lt-leb}
+use Rattle.std.proofs.lemmas.Bool.{lt-leb, and_parts, and_right}
 use Rattle.nal.specs.Escape.{zero_run, is_escape, needs_escape, unescape_from, escape_byte, escape_run, escape_end, escape_from, escape, escape_bytes, run_after}
 
 -- ---- the run of zero bytes
@@ -14,17 +14,10 @@ unfolding zero_run
 zero_run-other z b h = rw (ne_eqb b 0 (λ e. absurd (omega arith)))
 
 -- ---- which bytes are escaped, and which dropped
-and-true : (p q : Bool) → (p && q) ≡ true → (p ≡ true) × (q ≡ true)
-and-true true q e = (refl, e)
-and-true false q e = (e, cc)
 
 and-false : (p q : Bool) → (p && q) ≡ false → p ≡ true → q ≡ false
 and-false true q e h = e
 and-false false q e h = cc
-
-and_right : (p q : Bool) → q ≡ false → (p && q) ≡ false
-and_right true q e = e
-and_right false q e = refl
 
 pub needs_escape-no : (z b : ℕ) → needs_escape z b ≡ false → 2 ≤ z → 3 < b
 unfolding needs_escape
@@ -33,7 +26,7 @@ needs_escape-no z b e h = leb-false b 3 (and-false (leb 2 z) (leb b 3) e (le-leb
 pub needs_escape_yes : (z b : ℕ) → needs_escape z b ≡ true → (2 ≤ z) × (b ≤ 3)
 unfolding needs_escape
 needs_escape_yes z b e =
-    let w = and-true (leb 2 z) (leb b 3) e in (leb-true 2 z w.0, leb-true b 3 w.1)
+    let w = and_parts (leb 2 z) (leb b 3) e in (leb-true 2 z w.0, leb-true b 3 w.1)
 
 pub needs_escape-over : (z b : ℕ) → 3 < b → needs_escape z b ≡ false
 unfolding needs_escape
@@ -41,7 +34,7 @@ needs_escape-over z b h = and_right (leb 2 z) (leb b 3) (lt-leb b 3 h)
 
 pub is_escape_yes : (z b : ℕ) → is_escape z b ≡ true → b ≡ 3
 unfolding is_escape
-is_escape_yes z b e = eqb-true b 3 (and-true (leb 2 z) (eqb b 3) e).1
+is_escape_yes z b e = eqb-true b 3 (and_parts (leb 2 z) (eqb b 3) e).1
 
 pub is_escape_three : (z : ℕ) → 2 ≤ z → is_escape z 3 ≡ true
 unfolding is_escape

@@ -13,6 +13,7 @@ use refusal::Refusal;
 const MAX_BYTES: usize = 65535;
 
 // Takes the escape bytes out of a payload. Refusals: TooLong, then WorkTooShort if the output is shorter than it.
+#[tactic(auto, unfolding(crate::specs::Answers::unescape_answer, crate::specs::Answers::unescape_out, crate::specs::Answers::output_after))]
 pub fn ebsp_to_rbsp(ebsp: &[u8], out: &mut [u8]) -> Result<usize, Refusal>
     ensures value { result ≡ unescape_answer ebsp.now out.old }
     ensures out_after { out.new ≡ unescape_out ebsp.now out.old }
@@ -46,6 +47,7 @@ pub fn ebsp_to_rbsp(ebsp: &[u8], out: &mut [u8]) -> Result<usize, Refusal>
 
 // Puts the escape bytes into a payload. Refusals: TooLong, then OutputTooShort if the output is shorter than the
 // escaped bytes.
+#[tactic(auto, unfolding(crate::specs::Answers::escape_answer, crate::specs::Answers::escape_out, crate::specs::Answers::output_after))]
 pub fn rbsp_to_ebsp(rbsp: &[u8], out: &mut [u8]) -> Result<usize, Refusal>
     ensures value { result ≡ escape_answer rbsp.now out.old }
     ensures out_after { out.new ≡ escape_out rbsp.now out.old }
@@ -60,18 +62,21 @@ pub fn rbsp_to_ebsp(rbsp: &[u8], out: &mut [u8]) -> Result<usize, Refusal>
 }
 
 // The run of zero bytes that ends with b, after a run of z: 2 stands for two and more.
+#[tactic(auto, unfolding(crate::specs::Escape::zero_run))]
 pub fn zero_run(z: u8, b: u8) -> u8
     ensures { result ≡ zero_run z b }
 {
     if b == 0 { z.min(1) + 1 } else { 0 }
 }
 
+#[tactic(auto, unfolding(crate::specs::Escape::is_escape))]
 fn is_escape(z: u8, b: u8) -> bool
     ensures { result ≡ is_escape z b }
 {
     z >= 2 && b == 3
 }
 
+#[tactic(auto, unfolding(crate::specs::Escape::needs_escape))]
 pub fn needs_escape(z: u8, b: u8) -> bool
     ensures { result ≡ needs_escape z b }
 {

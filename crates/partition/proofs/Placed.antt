@@ -1,5 +1,6 @@
 -- What an accepted walk has placed: groups that fit the grid, with a slice for each index 0 to N.
-use Rattle.std.specs.Prelude.{◌≡◌, Bool, cond, ◌&&◌, ◌||◌, ltb, leb, ℤ, pos, negsuc}
+use Rattle.std.proofs.lemmas.Bool.{or_parts}
+use Rattle.std.specs.Prelude.{◌≡◌, Bool, cond, ◌&&◌, ltb, leb, ℤ, pos, negsuc}
 use Rattle.std.proofs.Math.Path.{refl, ap, sym}
 use Rattle.std.proofs.Common.{◌∙◌, subst}
 use mathlib.Core.List.{List, [], ◌∷◌, ◌++◌, append-nil}
@@ -22,16 +23,12 @@ use Rattle.partition.specs.Placed.{false-true, step, End, to-bottom-right, used_
 
 -- ---- what the checks of an entry say
 
-or-false : (a b : Bool) → (a || b) ≡ false → (a ≡ false) × (b ≡ false)
-or-false true b e = absurd (false-true (sym e))
-or-false false b e = (refl, e)
-
 -- a delta that is not refused leads to a tile of the grid
 pub delta-inside : (tiles t : ℕ) (v : ℤ) → delta_refused tiles t v ≡ false → tile_after_delta t v < tiles
 unfolding delta_refused delta_leaves tile_after_delta
-delta-inside tiles t (pos n) e = leb-false tiles (t + n) (or-false (leb tiles n) (leb tiles (t + n)) (or-false (eqb n 0) _ e).1).1
+delta-inside tiles t (pos n) e = leb-false tiles (t + n) (or_parts (leb tiles n) (leb tiles (t + n)) (or_parts (eqb n 0) _ e).1).1
 delta-inside tiles t (negsuc n) e =
-    leb-false tiles (t - suc n) (or-false (ltb t (suc n)) (leb tiles (t - suc n)) (or-false (leb tiles (suc n)) _ (or-false (eqb (suc n) 0) _ e).1).1).1
+    leb-false tiles (t - suc n) (or_parts (ltb t (suc n)) (leb tiles (t - suc n)) (or_parts (leb tiles (suc n)) _ (or_parts (eqb (suc n) 0) _ e).1).1).1
 
 -- where slices are to come, the next tile is one of the grid
 moves-inside : (columns tiles : ℕ) (d : Bool) (t : ℕ) (e : Entry) → AllPass (move_checks columns tiles d true t e) → next_tile columns d t e < tiles

@@ -6,6 +6,7 @@ ghost use Rattle.pps_parts.specs.Ends.{extension_at, end_read};
 use bit_reader::BitReader;
 use refusal::Refusal;
 
+#[tactic(auto, unfolding(crate::specs::Ends::extension_at))]
 fn extension_bits(r: &BitReader<'_>, flag: u8) -> usize
     ensures { result ≡ extension_at r.now.bytes.now flag (cursor_of r.now) }
 {

@@ -1,4 +1,5 @@
 -- A partition block whose writing is refused nowhere and that reading could have given is accepted: the questions give it a layout. So is every block that was read.
+use Rattle.std.proofs.Math.Bool.{and-false}
 use Rattle.std.specs.Prelude.{ℕ, suc, ◌-◌, ◌/◌, ◌<◌, ◌≡◌, refl, List, [], ◌∷◌, map, Bool, true, false, not, ◌&&◌, eqb, ltb, leb, length}
 use Rattle.std.proofs.Common.{lit<, ltb-true, eqb-true, le-ltb}
 use Rattle.std.proofs.lemmas.Bool.{lt-leb}
@@ -31,10 +32,6 @@ limited-within : (e : Element ℕ) (limit v n : ℕ) (l : 0 < n) → refusal_in 
 limited-within e limit v n l h =
     passes (leb v limit) (ltb limit v) (not_within v limit) (check-held (leb v limit) n l (refusal_parts (check (leb v limit) n) (e.symbols v) h).0)
 
-neither : (a : Bool) → (a && false) ≡ false
-neither true = refl
-neither false = refl
-
 -- one tile: the slices are rectangular
 one-tile : (tiles rect : ℕ) → refusal_in ((or_else (ltb 1 tiles) flag (absent sameℕ 1 26)).symbols rect) ≡ 0 → (leb tiles 1 && not (is_set rect)) ≡ false
 unfolding or_else
@@ -42,7 +39,7 @@ one-tile tiles rect h = split (ltb 1 tiles) refl h
   where
     split : (several : Bool) → ltb 1 tiles ≡ several → refusal_in ((or_else several flag (absent sameℕ 1 26)).symbols rect) ≡ 0 → (leb tiles 1 && not (is_set rect)) ≡ false
     split true e h = rw (lt-leb tiles 1 (ltb-true 1 tiles e))
-    split false e h = rw (eqb-true rect 1 (check-held (eqb rect 1) 26 (lit< tt) h)) (neither (leb tiles 1))
+    split false e h = rw (eqb-true rect 1 (check-held (eqb rect 1) 26 (lit< tt) h)) (and-false (leb tiles 1))
 
 -- a delta flag is set only with N over 1
 delta-flag : (N d : ℕ) → (flag_if (ltb 1 N)).canonical d ≡ true → (is_set d && ltb N 2) ≡ false
@@ -50,7 +47,7 @@ unfolding or_else
 delta-flag N d c = split (ltb 1 N) refl c
   where
     split : (several : Bool) → ltb 1 N ≡ several → (flag_if several).canonical d ≡ true → (is_set d && ltb N 2) ≡ false
-    split true e c = rw (le-ltb N 2 (ltb-true 1 N e)) (neither (is_set d))
+    split true e c = rw (le-ltb N 2 (ltb-true 1 N e)) (and-false (is_set d))
     split false e c = rw c
 
 no-entries : (rs : List RectSlice) → (none 26).canonical rs ≡ true → not (eqb (length (map entry_of rs)) 0) ≡ false

@@ -1,4 +1,5 @@
 -- The round trip: writing the record of an accepted unit gives exactly the bytes that reading took.
+use Rattle.std.proofs.lemmas.List.{nil_from_length}
 use Rattle.std.specs.Prelude.{ℕ, zero, suc, ◌+◌, ◌-◌, ◌*◌, ◌%◌, ◌≤◌, ◌<◌, ◌≡◌, refl, List, [], ◌∷◌, ◌++◌, Bool, true, false, cond, eqb, length, get_or, replicate}
 use Rattle.std.proofs.Common.{sym, ap, ◌∙◌, add-zero, arith, length-append, eq-eqb, ne_eqb}
 use Rattle.codes.specs.Bytes.{bit_count, bit_at, bit_list, bit_list-length}
@@ -20,10 +21,6 @@ use Rattle.pps_syntax.specs.WrittenBack.{Bytes, packed-back, extension_read, Wri
 -- what is held starts inside
 holds_start : {s : List ℕ} {at to : ℕ} {bs : List ℕ} → Holds s at bs to → at ≤ bit_count s
 holds_start h = omega (arith, h.reaches, h.inside)
-
-nothing : (l : List ℕ) → length l ≡ 0 → l ≡ []
-nothing [] e = refl
-nothing (x ∷ l) e = absurd (omega arith)
 
 held-bits : (s : List ℕ) (at n : ℕ) → at + n ≤ bit_count s → Holds s at (bit_list s at n) (at + n)
 held-bits s at n h =
@@ -69,7 +66,7 @@ extension-written flag s at n last none = split (is_set flag) refl
     split false e =
         let z : n ≡ 0 = none e in
         let k : length (bit_list s at n) ≡ 0 = bit_list-length s at n ∙ z in
-        let empty : bit_list s at n ≡ [] = nothing (bit_list s at n) k in
+        let empty : bit_list s at n ≡ [] = nil_from_length (bit_list s at n) k in
         rw (check-true (no_bits (bit_list s at n)) 26 (eq-eqb _ 0 k), empty) (record { accepted = refusal-putting []; bits = bits_in_putting [] })
 
 -- ---- the round trip

@@ -1,23 +1,14 @@
 -- What is still to come of the unescaped bytes, put behind those that are there, is the whole.
-use Prim.Native.Nat.{◌≤◌, ◌<◌}
 use native.Mathlib.Nat.{le_trans}
 use native.Mathlib.Omega.{arith}
 use mathlib.Core.Path.{sym, ap, ◌∙◌}
-use lib.ListN.{length}
 use Rattle.std.specs.Prelude.{Ok}
 use Rattle.nal.specs.Escape.{unescape}
-use Rattle.nal.specs.Answers.{unescape-long, unescape-short, unescape-done}
+use Rattle.nal.specs.Answers.{unescape-done}
 use Rattle.nal.specs.Lengths.{unescape-length}
 use Rattle.nal.proofs.Putting.{put_start, put-none, put_byte, put-done}
 use Rattle.nal.proofs.Steps.{unescape-kept, unescape_dropped, unescape-over, unescape-end}
 use Rattle.nal.proofs.ebsp_to_rbsp.Goals as goal
-
-pub returns-then-ebsp-gt-MAX_BYTES : goal.returns-then-ebsp-gt-MAX_BYTES
-returns-then-ebsp-gt-MAX_BYTES c = let long : 65535 < length c.args.ebsp.now = omega arith in record { value = sym (unescape-long _ _ long).0; out_after = sym (unescape-long _ _ long).1 }
-
-pub returns-then-out-ebsp : goal.returns-then-out-ebsp
-returns-then-out-ebsp c = let within : length c.args.ebsp.now ≤ 65535 = omega arith in
-    let short : length c.args.out.now < length c.args.ebsp.now = omega arith in record { value = sym (unescape-short _ _ within short).0; out_after = sym (unescape-short _ _ within short).1 }
 
 pub loop-b-init : goal.loop-b-init
 unfolding unescape
