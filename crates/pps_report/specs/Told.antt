@@ -7,7 +7,7 @@ use Rattle.pps_answer.specs.Answers.{PpsAnswer, Accepted, Refused, answer_of, sa
 use Rattle.pps_answer.specs.ParsePps.{ReadOutcome, outcome, parse_pps}
 use Rattle.pps_answer.specs.declared.AcceptedPps.{AcceptedPps}
 use Rattle.refusal.specs.declared.Refusal.{Refusal}
-use Rattle.refusal.specs.Numbers.{number, refused}
+use Rattle.refusal.specs.Numbers.{refused}
 use Rattle.pps_syntax.specs.FromRecord.{Lent, tables_long}
 use Rattle.pps_syntax.specs.Rbsp.{read_nal, before_fields}
 

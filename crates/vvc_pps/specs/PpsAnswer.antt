@@ -7,7 +7,6 @@ use Rattle.pps_answer.specs.Answers.{PpsAnswer, Accepted, Refused}
 use Rattle.pps_record.specs.Absent.{no_partition}
 use Rattle.pps_record.specs.declared.VvcPps.{VvcPps}
 use Rattle.pps_record.specs.declared.VvcPpsPartition.{VvcPpsPartition}
-use Rattle.pps_record.specs.declared.VvcQpOffsets.{VvcQpOffsets}
 use Rattle.pps_syntax.specs.FromRecord.{Lent}
 use Rattle.pps_syntax.specs.Record.{no_triples}
 use Rattle.vvc_pps.specs.declared.reading.VvcPpsRead.{VvcPpsRead}
