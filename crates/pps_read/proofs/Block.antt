@@ -9,7 +9,9 @@ use Rattle.bit_reader.specs.Gives.{Parsed, parsed, cursor_of, Gives, value_read,
 use Rattle.refusal.specs.Numbers.{number}
 use Rattle.bit_reader.specs.Reading.{refusal}
 use Rattle.bit_reader.proofs.Gives.{given, given_back, refuses, refused_back, not-0}
-use Rattle.pps_partition.specs.PartitionAnswer.{one_block}
+use Rattle.pps_slices.specs.Loop.{slices_left}
+use Rattle.pps_partition.specs.PartitionAnswer.{one_block, partition_left}
+use Rattle.pps_partition.proofs.NothingLeft.{slices_accepted}
 use Rattle.pps_record.specs.declared.VvcPpsPartition.{VvcPpsPartition}
 use Rattle.pps_syntax.specs.FromRecord.{Lent}
 use Rattle.pps_syntax.specs.PartitionSyntax.{PartitionBlock, partition}
@@ -54,12 +56,12 @@ module _ (W H : ℕ) {p q : BitReader} where
   block-answer false o g = absurd (not-true o)
 
   pub block-tables : (on : Bool) (t u : Lent) {x : Result VvcPpsPartition Refusal} → on ≡ true → Gives (held_as one_block (parse (partition W H))) p q x
-      → OnOk x (u.column_widths ≡ sets t.column_widths 0 (value_read (parse (partition W H)) p).pps_tile_column_width_minus1)
-      → OnOk x (u.row_heights ≡ sets t.row_heights 0 (value_read (parse (partition W H)) p).pps_tile_row_height_minus1)
-      → OnOk x (u.slices ≡ put_slices t.slices 0 0 (value_read (parse (partition W H)) p).rect_slices)
+      → u.column_widths ≡ sets t.column_widths 0 (value_read (parse (partition W H)) p).pps_tile_column_width_minus1
+      → u.row_heights ≡ sets t.row_heights 0 (value_read (parse (partition W H)) p).pps_tile_row_height_minus1
+      → u.slices ≡ slices_left t.slices 0 0 (value_read (parse (partition W H)) p).rect_slices (partition_left W H p.bytes.now (cursor_of p))
       → OnOk x ((length (value_read (blocks_read on W H) p) ≡ one_if on) × BlocksPut (value_read (blocks_read on W H) p) t u)
   block-tables true t u {x = Ok w} o g c r s =
-      blocks-put (value_read (parse (partition W H)) p) (value_read (blocks_read true W H) p) t u (ap (λ (y : Parsed (List PartitionBlock)). y.value) (block-is g)) c r s
+      blocks-put (value_read (parse (partition W H)) p) (value_read (blocks_read true W H) p) t u (ap (λ (y : Parsed (List PartitionBlock)). y.value) (block-is g)) c r (slices_accepted W H g t.slices u.slices s)
   block-tables true t u {x = Err e} o g c r s = tt
   block-tables false t u o g c r s = absurd (not-true o)
 

@@ -17,11 +17,14 @@ pub record Begins {R A : Type 0} (d : Syntax R) (read : List ℕ → Cursor → 
   pub splits : (s : List ℕ) (c : Cursor) → parse d s c ≡ parse (k (read s c).value) s (read s c).next
 
 module _ {R A : Type 0} {d : Syntax R} {read : List ℕ → Cursor → Parsed A} {k : A → Syntax R} (b : Begins d read k) where
-  -- the first part gave a value: go on behind it
+  -- the first part gave a value: the rest is read behind it
+  pub read_behind : {p q : BitReader} {v : A} → Gives read p q (Ok v) → parse (k v) q.bytes.now (cursor_of q) ≡ parse d p.bytes.now (cursor_of p)
+  read_behind {p} {q} {v} g =
+      ap (λ y. parse (k v) y.now (cursor_of q)) g.bytes ∙ ap (λ (y : Parsed A). parse (k y.value) p.bytes.now y.next) (given_back g) ∙ sym (b.splits p.bytes.now (cursor_of p))
+
   pub behind : {p q r : BitReader} {x : Result R Refusal} {v : A} → Gives read p q (Ok v) → Follows (k v) q r x → Follows d p r x
   behind {p} {q} {r} {x} {v} g f =
-      let same : parse (k v) q.bytes.now (cursor_of q) ≡ parse d p.bytes.now (cursor_of p) =
-      ap (λ y. parse (k v) y.now (cursor_of q)) g.bytes ∙ ap (λ (y : Parsed A). parse (k y.value) p.bytes.now y.next) (given_back g) ∙ sym (b.splits p.bytes.now (cursor_of p)) in
+      let same = read_behind g in
       record {
         gives =
             record {

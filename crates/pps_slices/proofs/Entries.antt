@@ -8,7 +8,8 @@ use Rattle.std.proofs.lemmas.List.Edits.{sets}
 use Rattle.refusal.specs.declared.Refusal.{Refusal}
 use Rattle.bit_reader.specs.declared.BitReader.{BitReader}
 use Rattle.bit_reader.specs.declared.Cursor.{Cursor}
-use Rattle.bit_reader.specs.Gives.{Gives, held_as, value_read}
+use Rattle.bit_reader.specs.Gives.{Gives, cursor_of, held_as, value_read}
+use Rattle.bit_reader.proofs.Gives.{refused_back, not-0}
 use Rattle.bit_reader.specs.Reading.{demanded}
 use Rattle.partition.specs.Entry.{Position, tile_row_height, split_coded, num_slices_in_tile, split_heights, last_slice_of, next_tile, next_position, tile_after_delta, default_advance}
 use Rattle.partition.specs.Grid.{Grid, columns, rows, tiles}
@@ -24,8 +25,9 @@ use Rattle.slice_loop.specs.declared.SliceIdx.{SliceIdx}
 use Rattle.pps_slices.specs.declared.parts.SplitRead.{SplitRead}
 use Rattle.pps_slices.specs.declared.parts.MoveRead.{MoveRead}
 use Rattle.pps_slices.specs.Parts.{width_part, height_part, last_of, explicit_heights, split_part, split_kept, delta_part, move_kept}
-use Rattle.pps_slices.specs.Entries.{EntryHeld, EntryRead}
-use Rattle.pps_slices.proofs.Chain.{Begins, behind, refused_there, was_read, was_refused}
+use Rattle.pps_slices.specs.Entries.{heights_read, EntryHeld, EntryRead}
+use Rattle.pps_slices.proofs.Chain.{Begins, read_behind, behind, refused_there, was_read, was_refused}
+use Rattle.pps_slices.proofs.Stuck.{heights_of, move-heights, split-stuck, height-stuck}
 use Rattle.pps_slices.proofs.Splits.{slices_enough}
 
 -- ---- what the parts say where they are not coded
@@ -97,13 +99,32 @@ module _ (g : Grid) (deltas : Bool) (N : ℕ) (k : Position) where
     move_begins p hs only = record { splits = λ s c. rw (last-same split hs row k.slice only) }
 
 -- ---- as code comes to it
+none_stored : {hs : List ℕ} (t : List ℕ) (from : ℕ) → hs ≡ [] → t ≡ sets t from hs
+none_stored t from e = rw e
+
 module _ (g : Grid) (deltas : Bool) (N : ℕ) (k : Position) {p : BitReader} where
-  pub no_width : {q : BitReader} {e : Refusal} → Gives (width_part (columns g) k.tile) p q (Err e) → Gives (parse (rect_slice g deltas N k)) p q (Err e)
-  no_width W = (refused_there (width_begins g deltas N k) W).gives
+  module _ {q : BitReader} {e : Refusal} (W : Gives (width_part (columns g) k.tile) p q (Err e)) where
+    pub no_width : Gives (parse (rect_slice g deltas N k)) p q (Err e)
+    no_width = (refused_there (width_begins g deltas N k) W).gives
+
+    -- nothing is read behind it
+    pub no_width_table : (t : List ℕ) (from : ℕ) → t ≡ sets t from (heights_read g deltas N k p)
+    no_width_table t from =
+        let w = width_part (columns g) k.tile p.bytes.now (cursor_of p) in
+        none_stored t from
+        (ap heights_of ((width_begins g deltas N k).splits p.bytes.now (cursor_of p)) ∙ height-stuck g deltas N k p.bytes.now w.value w.next (not-0 e q.bit_pos (refused_back W)))
 
   module _ {q : BitReader} {w : ℕ} (W : Gives (width_part (columns g) k.tile) p q (Ok w)) where
     pub no_height : {r : BitReader} {e : Refusal} → Gives (height_part (columns g) (rows g) deltas k.tile k.preceding_height_minus1) q r (Err e) → Gives (parse (rect_slice g deltas N k)) p r (Err e)
     no_height H = (behind (width_begins g deltas N k) W (refused_there (height_begins g deltas N k w) H)).gives
+
+    pub no_height_table : {r : BitReader} {e : Refusal} → Gives (height_part (columns g) (rows g) deltas k.tile k.preceding_height_minus1) q r (Err e)
+        → (t : List ℕ) (from : ℕ) → t ≡ sets t from (heights_read g deltas N k p)
+    no_height_table {r} {e} H t from =
+        let h = height_part (columns g) (rows g) deltas k.tile k.preceding_height_minus1 q.bytes.now (cursor_of q) in
+        none_stored t from
+        (ap heights_of (sym (read_behind (width_begins g deltas N k) W) ∙ (height_begins g deltas N k w).splits q.bytes.now (cursor_of q))
+        ∙ split-stuck g deltas N k q.bytes.now w h.value h.next (not-0 e r.bit_pos (refused_back H)))
 
     module _ {r : BitReader} {h : ℕ} (H : Gives (height_part (columns g) (rows g) deltas k.tile k.preceding_height_minus1) q r (Ok h)) (l : k.slice ≤ N) where
       abbrev there : Bool
@@ -111,6 +132,17 @@ module _ (g : Grid) (deltas : Bool) (N : ℕ) (k : Position) {p : BitReader} whe
 
       abbrev part : Syntax (List ℕ)
       part = split_part there (row_height_of g k.tile) N k.slice
+
+      -- the heights are those that the split part read, refused or not
+      heights_are : heights_read g deltas N k p ≡ value_read (parse part) r
+      heights_are =
+          ap heights_of
+          (sym (read_behind (width_begins g deltas N k) W) ∙ sym (read_behind (height_begins g deltas N k w) H)
+          ∙ (split_begins g deltas N k w h l).splits r.bytes.now (cursor_of r))
+          ∙ move-heights g deltas N k r.bytes.now w h (one_if there) (value_read (parse part) r) _
+
+      pub heights_table : (t : List ℕ) (from : ℕ) {u : List ℕ} → u ≡ sets t from (value_read (parse part) r) → u ≡ sets t from (heights_read g deltas N k p)
+      heights_table t from e = e ∙ ap (sets t from) (sym heights_are)
 
       pub no_split : {v : BitReader} {e : Refusal} → Gives (held_as (split_kept there (row_height_of g k.tile) k.slice) (parse part)) r v (Err e) → Gives (parse (rect_slice g deltas N k)) p v (Err e)
       no_split K = let S = was_refused (split_kept there (row_height_of g k.tile) k.slice) (parse part) K in
@@ -175,10 +207,10 @@ module _ (g : Grid) (deltas : Bool) (N : ℕ) (k : Position) {p : BitReader} whe
           abbrev d : ℤ
           d = value_read (parse walk) v
 
-          pub entry_held : {slice : SliceIdx} (from : ℕ) (t : List ℕ) {u : List ℕ} → slice.0 ≡ min (suc sp.last.0) N → u ≡ sets t from hs
-              → EntryHeld g deltas N k from t u p x (record { width = w; height = h; split_count = sp.count; delta = m.delta; next = record { slice = slice; tile = m.tile; preceding_height = h } })
+          pub entry_held : {slice : SliceIdx} → slice.0 ≡ min (suc sp.last.0) N
+              → EntryHeld g deltas N k p x (record { width = w; height = h; split_count = sp.count; delta = m.delta; next = record { slice = slice; tile = m.tile; preceding_height = h } })
           unfolding last_of next_tile next_position last_slice_of
-          entry_held {slice} from t at tab =
+          entry_held {slice} at =
               let count_is : sp.count ≡ cond there (Some (length hs)) None = sym (ap (λ (y : SplitRead). y.count) SP.value) in
               let delta_is : m.delta ≡ cond (deltas && coming) (Some d) None = sym (ap (λ (y : MoveRead). y.delta) moved.value) in
               let tile_is : m.tile.0 ≡ cond coming (cond deltas (tile_after_delta k.tile d) (default_advance (columns g) k.tile w h)) k.tile = sym (ap (λ (y : MoveRead). y.tile.0) moved.value) in
@@ -187,27 +219,27 @@ module _ (g : Grid) (deltas : Bool) (N : ℕ) (k : Position) {p : BitReader} whe
               let coded : is_some sp.count ≡ there = ap is_some count_is ∙ some-coded there (length hs) in
               let present : is_some m.delta ≡ (deltas && coming) = ap is_some delta_is ∙ some-coded (deltas && coming) d in
               let value : unwrap_or m.delta (pos 0) ≡ d = ap (λ (y : Option ℤ). unwrap_or y (pos 0)) delta_is ∙ kept-value (deltas && coming) d (pos 0) (λ e. undelta (columns g) (tiles g) deltas coming k.tile w h v e) in
+              let are = heights_are in
               record {
-                heights = hs;
-                gives = rw (coded, present, value) (whole S (was_read (move_kept (columns g) deltas coming k.tile w h) (parse walk) moved));
-                count = ap (λ (y : Option ℕ). unwrap_or y 0) count_is ∙ kept-value there (length hs) 0 (λ e. ap length (only S e));
-                table = tab;
-                moves = (omega (arith, same, enough), omega (arith, same, enough));
+                gives = rw (are, coded, present, value) (whole S (was_read (move_kept (columns g) deltas coming k.tile w h) (parse walk) moved));
+                count = rw are (ap (λ (y : Option ℕ). unwrap_or y 0) count_is ∙ kept-value there (length hs) 0 (λ e. ap length (only S e)));
+                moves = rw are (omega (arith, same, enough), omega (arith, same, enough));
                 precedes = refl;
                 follows =
-                    record {
+                    rw are
+                    (record {
                       slice_is = omega (arith, at, last_is, same);
                       tile_is = λ z.
                           tile_is
                           ∙ ap (λ (b : Bool). cond b (cond deltas (tile_after_delta k.tile d) (default_advance (columns g) k.tile w h)) k.tile) (lt-ltb (last_of k.slice (row_height_of g k.tile) hs) N (omega (arith, z, same)))
                           ∙ ap (λ (y : ℤ). cond deltas (tile_after_delta k.tile y) (default_advance (columns g) k.tile w h)) (sym value);
-                    };
+                    });
               }
 
 -- ---- over the numbers that the loop goes by
-pub entry_exit : (g : Grid) (deltas : Bool) (N : ℕ) (k : Position) (from : ℕ) (t u : List ℕ) (p q : BitReader) (x : Result RectSliceRead Refusal) {e : Refusal} → IsErrAnd x (λ y. y ≡ e) → Gives (parse (rect_slice g deltas N k)) p q (Err e)
-    → EntryRead g deltas N k from t u p q x
-entry_exit g deltas N k from t u p q x h G = let y = err_from_is_err_and x h in rw (y.1, y.2) G
+pub entry_exit : (g : Grid) (deltas : Bool) (N : ℕ) (k : Position) (p q : BitReader) (x : Result RectSliceRead Refusal) {e : Refusal} → IsErrAnd x (λ y. y ≡ e) → Gives (parse (rect_slice g deltas N k)) p q (Err e)
+    → EntryRead g deltas N k p q x
+entry_exit g deltas N k p q x h G = let y = err_from_is_err_and x h in rw (y.1, y.2) G
 
 module _ (g : Grid) (ctx : SliceLoopCtx) (rs : List ℕ) (o : LoopOver ctx rs g) (t : ℕ) where
   abbrev C : ℕ

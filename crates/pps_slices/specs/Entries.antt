@@ -1,10 +1,9 @@
 -- What reading an entry of the slice loop gives.
 use Rattle.std.specs.Prelude.{ℕ, ◌+◌, ◌≤◌, ◌<◌, ◌≡◌, List, [], ◌∷◌, Bool, Result, Ok, Err, pos, length}
 use Rattle.std.specs.Option.{is_some, unwrap_or}
-use Rattle.std.proofs.lemmas.List.Edits.{sets}
 use Rattle.refusal.specs.declared.Refusal.{Refusal}
 use Rattle.bit_reader.specs.declared.BitReader.{BitReader}
-use Rattle.bit_reader.specs.Gives.{Gives}
+use Rattle.bit_reader.specs.Gives.{Gives, value_read}
 use Rattle.partition.specs.Entry.{Position}
 use Rattle.partition.specs.Grid.{Grid}
 use Rattle.partition.specs.Walk.{onward}
@@ -37,18 +36,22 @@ abbrev pub read_row : RectSliceRead → List ℕ
 read_row r =
     r.width ∷ r.height ∷ one_if (is_some r.split_count) ∷ unwrap_or r.split_count 0 ∷ one_if (is_some r.delta) ∷ bits_of_delta (unwrap_or r.delta (pos 0)) ∷ []
 
-module _ (g : Grid) (deltas : Bool) (N : ℕ) (k : Position) (from : ℕ) (t u : List ℕ) (p q : BitReader) where
-  pub record EntryHeld (r : RectSliceRead) : Type 0 where
-    pub heights : List ℕ
-    pub gives : Gives (parse (rect_slice g deltas N k)) p q (Ok (slice_of r heights))
-    pub count : unwrap_or r.split_count 0 ≡ length heights
-    pub table : u ≡ sets t from heights
-    -- a slice for each explicit height, and one at least
-    pub moves : (k.slice + length heights ≤ (onward g deltas k (entry_of (slice_of r heights))).slice) × (k.slice < (onward g deltas k (entry_of (slice_of r heights))).slice)
-    pub precedes : r.next.preceding_height ≡ r.height
-    pub follows : Follows N r.next.slice.0 r.next.tile.0 (onward g deltas k (entry_of (slice_of r heights)))
+module _ (g : Grid) (deltas : Bool) (N : ℕ) (k : Position) where
+  -- the explicit slice heights that are read, also where the entry is refused
+  abbrev pub heights_read : BitReader → List ℕ
+  heights_read p = (value_read (parse (rect_slice g deltas N k)) p).pps_exp_slice_height_in_ctus_minus1
 
-  -- the entry is held, its heights in their table, and what is next; or its refusal
-  abbrev pub EntryRead : Result RectSliceRead Refusal → Type 0
-  EntryRead (Ok r) = EntryHeld r
-  EntryRead (Err e) = Gives (parse (rect_slice g deltas N k)) p q (Err e)
+  module _ (p q : BitReader) where
+    pub record EntryHeld (r : RectSliceRead) : Type 0 where
+      pub gives : Gives (parse (rect_slice g deltas N k)) p q (Ok (slice_of r (heights_read p)))
+      pub count : unwrap_or r.split_count 0 ≡ length (heights_read p)
+      -- a slice for each explicit height, and one at least
+      pub moves : (k.slice + length (heights_read p) ≤ (onward g deltas k (entry_of (slice_of r (heights_read p)))).slice)
+          × (k.slice < (onward g deltas k (entry_of (slice_of r (heights_read p)))).slice)
+      pub precedes : r.next.preceding_height ≡ r.height
+      pub follows : Follows N r.next.slice.0 r.next.tile.0 (onward g deltas k (entry_of (slice_of r (heights_read p))))
+
+    -- the entry is held, and what is next; or its refusal
+    abbrev pub EntryRead : Result RectSliceRead Refusal → Type 0
+    EntryRead (Ok r) = EntryHeld r
+    EntryRead (Err e) = Gives (parse (rect_slice g deltas N k)) p q (Err e)

@@ -23,7 +23,7 @@ unfolding some_grid
 some-over ctx rs e = over-made ctx rs (some_grid ctx rs) e (record { columns_are = length-replicate ctx.num_tile_columns 0; heights_are = refl })
 
 -- ---- the row heights that are looked at
-module _ (k : ℕ) (l : List ℕ) (e : k ≡ min max_tiles (length l)) where
+module _ (k : ℕ) (l : List ℕ) (e : k ≡ min (length l) max_tiles) where
   pub front_length : k ≡ length (take k l)
   front_length = sym (length-take-le k l (omega arith))
 

@@ -1,3 +1,4 @@
 pub mod Parts
 pub mod Entries
 pub mod Grids
+pub mod Loop

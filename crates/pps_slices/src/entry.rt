@@ -1,7 +1,8 @@
 // One entry of the slice loop (H.266 7.3.2.5).
-ghost use Rattle.std.specs.Prelude.{◌*◌, ◌≤◌};
+ghost use Rattle.std.specs.Prelude.{◌*◌, ◌≤◌, ◌≡◌};
+ghost use Rattle.std.proofs.lemmas.List.Edits.{sets};
 ghost use Rattle.partition.specs.Grid.{Grid};
-ghost use Rattle.pps_slices.specs.Entries.{EntryRead, position_of};
+ghost use Rattle.pps_slices.specs.Entries.{EntryRead, heights_read, position_of};
 ghost use Rattle.slice_loop.specs.Loop.{LoopOver};
 
 use super::parts::{read_height, read_move, read_split, read_width};
@@ -27,7 +28,8 @@ pub struct RectSliceRead {
     pub next: LoopPosition,
 }
 
-// The entry at a place of the loop; its explicit slice heights go into the table from place `from` on.
+// The entry at a place of the loop; its explicit slice heights go into the table from place `from` on, and stay there
+// where the entry is refused.
 pub fn read_rect_slice(
     r: &mut BitReader<'_>,
     row_heights: &[u32],
@@ -38,9 +40,11 @@ pub fn read_rect_slice(
 ) -> Result<RectSliceRead, Refusal>
     requires { (at.slice.0 ≤ ctx.num_slices_minus1.0)
         × (ctx.num_tile_rows * ctx.num_tile_columns ≤ 4294967295) }
-    ensures { (g : Grid) → LoopOver ctx row_heights.now g
-        → EntryRead g ctx.delta_present ctx.num_slices_minus1.0 (position_of at) from
-        split_heights.old split_heights.new r.old r.new result }
+    ensures gives { (g : Grid) → LoopOver ctx row_heights.now g
+        → EntryRead g ctx.delta_present ctx.num_slices_minus1.0 (position_of at) r.old r.new result }
+    ensures table { (g : Grid) → LoopOver ctx row_heights.now g
+        → split_heights.new ≡ sets split_heights.old from
+        (heights_read g ctx.delta_present ctx.num_slices_minus1.0 (position_of at) r.old) }
 {
     let width = read_width(r, ctx, at.tile)?;
     let height = read_height(r, ctx, at.tile, at.preceding_height)?;

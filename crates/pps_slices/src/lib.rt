@@ -2,15 +2,15 @@
 // parse_partition.
 #![tactic(auto)]
 
-ghost use Rattle.std.specs.Prelude.{◌≡◌, ◌*◌, ◌≤◌, OnOk, length, take};
-ghost use Rattle.bit_reader.specs.Gives.{Gives, held_as, value_read};
+ghost use Rattle.std.specs.Prelude.{◌≡◌, ◌*◌, ◌≤◌, length, take};
+ghost use Rattle.bit_reader.specs.Gives.{Gives, cursor_of, held_as, value_read};
 ghost use Rattle.partition.specs.Entry.{first_position};
 ghost use Rattle.partition.specs.Grid.{Grid, max_tiles};
 ghost use Rattle.pps_syntax.specs.SliceSyntax.{rect_slices};
-ghost use Rattle.pps_syntax.specs.SliceTables.{put_slices};
 ghost use Rattle.pps_tables.specs.Mutable.{slices_before, slices_after};
 ghost use Rattle.slice_loop.specs.Loop.{LoopOver};
 ghost use Rattle.pps_slices.specs.Grids.{GridHas};
+ghost use Rattle.pps_slices.specs.Loop.{slices_left, refused_heights};
 
 use bit_reader::BitReader;
 use entry::{LoopPosition, read_rect_slice};
@@ -18,14 +18,14 @@ use pps_tables::ENTRY_LEN;
 use put::put_slice;
 use refusal::Refusal;
 use slice_loop::{SliceIdx, SliceLoopCtx, TileIdx};
-use tables::places::at_most;
 use tile_sizes::MAX_TILES;
 
 mod entry;
 mod parts;
 mod put;
 
-// The slice loop: from tile 0 and slice 0, while the slice index is below N; how many entries there are.
+// The slice loop: from tile 0 and slice 0, while the slice index is below N; how many entries there are. The explicit
+// slice heights of an entry stay in their table where the entry is refused.
 fn read_loop(
     r: &mut BitReader<'_>,
     row_heights: &[u32],
@@ -39,9 +39,11 @@ fn read_loop(
         → Gives (held_as length (rect_slices g ctx.delta_present ctx.num_slices_minus1.0 first_position).read)
         r.old r.new result }
     ensures tables { (g : Grid) → LoopOver ctx row_heights.now g
-        → OnOk result (slices_after entries split_heights
-        ≡ put_slices (slices_before entries split_heights) 0 0
-        (value_read (rect_slices g ctx.delta_present ctx.num_slices_minus1.0 first_position).read r.old)) }
+        → slices_after entries split_heights
+        ≡ slices_left (slices_before entries split_heights) 0 0
+        (value_read (rect_slices g ctx.delta_present ctx.num_slices_minus1.0 first_position).read r.old)
+        (refused_heights g ctx.delta_present ctx.num_slices_minus1.0 first_position
+        r.old.bytes.now (cursor_of r.old)) }
 {
     let n = ctx.num_slices_minus1;
     let mut at = LoopPosition {
@@ -62,7 +64,7 @@ fn read_loop(
 }
 
 // The slices of a grid of so many columns and of these row heights, of which no more than `MAX_TILES` are looked at, so
-// that a tile's index has 32 bits. Where they are read they are in their tables.
+// that a tile's index has 32 bits. What was read before a refusal is in the tables.
 pub fn read_rect_slices(
     r: &mut BitReader<'_>,
     num_tile_columns: u8,
@@ -75,11 +77,12 @@ pub fn read_rect_slices(
     ensures gives { (g : Grid) → GridHas num_tile_columns (take max_tiles row_heights.now) g
         → Gives (held_as length (rect_slices g deltas_coded n.0 first_position).read) r.old r.new result }
     ensures tables { (g : Grid) → GridHas num_tile_columns (take max_tiles row_heights.now) g
-        → OnOk result (slices_after entries split_heights
-        ≡ put_slices (slices_before entries split_heights) 0 0
-        (value_read (rect_slices g deltas_coded n.0 first_position).read r.old)) }
+        → slices_after entries split_heights
+        ≡ slices_left (slices_before entries split_heights) 0 0
+        (value_read (rect_slices g deltas_coded n.0 first_position).read r.old)
+        (refused_heights g deltas_coded n.0 first_position r.old.bytes.now (cursor_of r.old)) }
 {
-    let rows = at_most(MAX_TILES, row_heights.len());
+    let rows = row_heights.len().min(MAX_TILES as usize);
     let ctx = SliceLoopCtx {
         num_tile_columns: num_tile_columns as u32,
         num_tile_rows: rows as u32,

@@ -1,6 +1,6 @@
 // The parts of an entry of the slice loop (H.266 7.3.2.5): width, height, explicit slice heights, the way to the next
 // tile.
-ghost use Rattle.std.specs.Prelude.{◌≡◌, ◌*◌, ◌≤◌, cond, eqb, ltb, OnOk};
+ghost use Rattle.std.specs.Prelude.{◌≡◌, ◌*◌, ◌≤◌, cond, eqb, ltb};
 ghost use Rattle.std.proofs.lemmas.List.Edits.{sets};
 ghost use Rattle.bit_reader.specs.Gives.{Gives, held_as, value_read};
 ghost use Rattle.syntax.specs.Syntax.{parse};
@@ -77,9 +77,9 @@ pub fn read_split(
     requires { slice.0 ≤ ctx.num_slices_minus1.0 }
     ensures gives { Gives (held_as (split_kept split row.0 slice.0)
         (parse (split_part split row.0 ctx.num_slices_minus1.0 slice.0))) r.old r.new result }
-    ensures table { OnOk result (split_heights.new
+    ensures table { split_heights.new
         ≡ sets split_heights.old from
-        (value_read (parse (split_part split row.0 ctx.num_slices_minus1.0 slice.0)) r.old)) }
+        (value_read (parse (split_part split row.0 ctx.num_slices_minus1.0 slice.0)) r.old) }
 {
     if !split {
         return Ok(SplitRead {

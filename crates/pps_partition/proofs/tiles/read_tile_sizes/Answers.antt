@@ -1,7 +1,7 @@
 use Rattle.std.proofs.Common.{refl}
 use Rattle.refusal.specs.Numbers.{number}
 use Rattle.bit_reader.proofs.Gives.{at_exit}
-use Rattle.pps_partition.proofs.Sizes.{large_ctu, no_columns, no_rows, many_counted, no_widths, no_heights, sizes_made, widths_put, heights_put, rows_few}
+use Rattle.pps_partition.proofs.Sizes.{large_ctu, large_ctu_put, no_columns, no_columns_put, no_rows, no_rows_put, many_counted, many_counted_put, no_widths, no_widths_put, no_heights, sizes_made, sizes_put}
 use Rattle.pps_partition.proofs.tiles.read_tile_sizes.Goals as goal
 
 pub returns-then-ctu-gt2-clause-gives : goal.returns-then-ctu-gt2-clause-gives
@@ -30,14 +30,30 @@ pub returns-clause-gives : goal.returns-clause-gives
 unfolding number
 returns-clause-gives c = sizes_made _ _ c.small_u-ctu.ensures c.if-ctu-gt2.false c.in_ok-columns_minus1.ensures c.in_ok-rows_minus1.ensures c.if-not-few.false c.in_ctbs-pic_width.ensures c.in_ok-columns.ensures.axis c.in_ctbs-pic_height.ensures c.in_ok-rows.ensures.axis refl
 
-pub returns-clause-columns : goal.returns-clause-columns
+pub returns-then-ctu-gt2-clause-tables : goal.returns-then-ctu-gt2-clause-tables
 unfolding number
-returns-clause-columns c = widths_put _ _ c.small_u-ctu.ensures c.if-ctu-gt2.false c.in_ok-columns_minus1.ensures c.in_ok-rows_minus1.ensures c.if-not-few.false c.in_ctbs-pic_width.ensures c.in_ok-columns.ensures.axis c.in_ctbs-pic_height.ensures c.in_ok-rows.ensures.axis _ _ c.in_ok-columns.ensures.table
+returns-then-ctu-gt2-clause-tables c = large_ctu_put _ _ c.small_u-ctu.ensures c.if-ctu-gt2.true _ _
 
-pub returns-clause-rows : goal.returns-clause-rows
+pub returns-in_err-columns_minus1-clause-tables : goal.returns-in_err-columns_minus1-clause-tables
 unfolding number
-returns-clause-rows c = heights_put _ _ c.small_u-ctu.ensures c.if-ctu-gt2.false c.in_ok-columns_minus1.ensures c.in_ok-rows_minus1.ensures c.if-not-few.false c.in_ctbs-pic_width.ensures c.in_ok-columns.ensures.axis c.in_ctbs-pic_height.ensures c.in_ok-rows.ensures.axis _ _ c.in_ok-rows.ensures.table
+returns-in_err-columns_minus1-clause-tables c = no_columns_put _ _ c.small_u-ctu.ensures c.if-ctu-gt2.false c.in_err-columns_minus1.ensures _ _
 
-pub returns-clause-few : goal.returns-clause-few
+pub returns-in_err-rows_minus1-clause-tables : goal.returns-in_err-rows_minus1-clause-tables
 unfolding number
-returns-clause-few c = rows_few _ _ c.small_u-ctu.ensures c.if-ctu-gt2.false c.in_ok-columns_minus1.ensures c.in_ok-rows_minus1.ensures c.if-not-few.false c.in_ctbs-pic_width.ensures c.in_ok-columns.ensures.axis c.in_ctbs-pic_height.ensures c.in_ok-rows.ensures.axis
+returns-in_err-rows_minus1-clause-tables c = no_rows_put _ _ c.small_u-ctu.ensures c.if-ctu-gt2.false c.in_ok-columns_minus1.ensures c.in_err-rows_minus1.ensures _ _
+
+pub returns-then-not-few-clause-tables : goal.returns-then-not-few-clause-tables
+unfolding number
+returns-then-not-few-clause-tables c = many_counted_put _ _ c.small_u-ctu.ensures c.if-ctu-gt2.false c.in_ok-columns_minus1.ensures c.in_ok-rows_minus1.ensures c.if-not-few.true _ _
+
+pub returns-in_err-columns-clause-tables : goal.returns-in_err-columns-clause-tables
+unfolding number
+returns-in_err-columns-clause-tables c = no_widths_put _ _ c.small_u-ctu.ensures c.if-ctu-gt2.false c.in_ok-columns_minus1.ensures c.in_ok-rows_minus1.ensures c.if-not-few.false c.in_ctbs-pic_width.ensures c.in_err-columns.ensures.axis _ _ c.in_err-columns.ensures.table
+
+pub returns-in_err-rows-clause-tables : goal.returns-in_err-rows-clause-tables
+unfolding number
+returns-in_err-rows-clause-tables c = sizes_put _ _ c.small_u-ctu.ensures c.if-ctu-gt2.false c.in_ok-columns_minus1.ensures c.in_ok-rows_minus1.ensures c.if-not-few.false c.in_ctbs-pic_width.ensures c.in_ok-columns.ensures.axis c.in_ctbs-pic_height.ensures _ _ c.in_ok-columns.ensures.table c.in_err-rows.ensures.table
+
+pub returns-clause-tables : goal.returns-clause-tables
+unfolding number
+returns-clause-tables c = sizes_put _ _ c.small_u-ctu.ensures c.if-ctu-gt2.false c.in_ok-columns_minus1.ensures c.in_ok-rows_minus1.ensures c.if-not-few.false c.in_ctbs-pic_width.ensures c.in_ok-columns.ensures.axis c.in_ctbs-pic_height.ensures _ _ c.in_ok-columns.ensures.table c.in_ok-rows.ensures.table
