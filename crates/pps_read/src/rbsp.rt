@@ -34,15 +34,7 @@ fn read_block(
     if !partitioned {
         return Ok(VvcPpsPartition::absent());
     }
-    read_partition(
-        r,
-        width,
-        height,
-        tables.tile_column_widths,
-        tables.tile_row_heights,
-        tables.entries,
-        tables.split_heights,
-    )
+    read_partition(r, width, height, tables)
 }
 
 // The whole set. After a refusal the tables hold what had been read by then, and of a slice entry that is refused its

@@ -2,8 +2,12 @@
 use Rattle.std.specs.Prelude.{List, ◌≡◌, length}
 use Rattle.std.specs.Borrow.{MutBor}
 use Rattle.pps_tables.specs.declared.lent_mut.LentTablesMut.{LentTablesMut}
+use Rattle.pps_tables.specs.declared.lent_mut.SliceTablesMut.{SliceTablesMut}
 use Rattle.pps_syntax.specs.FromRecord.{Lent, lent}
-use Rattle.pps_syntax.specs.SliceTables.{slice_tables}
+use Rattle.pps_syntax.specs.SliceTables.{SliceTables, slice_tables}
+
+abbrev pub slices_now : SliceTablesMut → SliceTables
+slices_now t = slice_tables t.entries.now t.split_heights.now
 
 abbrev pub lent_now : LentTablesMut → Lent
 lent_now t = lent t.subpic_ids.now t.tile_column_widths.now t.tile_row_heights.now (slice_tables t.entries.now t.split_heights.now)
@@ -17,5 +21,9 @@ pub record SameTables (t u : LentTablesMut) : Type 0 where
   pub subpic_ids : SameTable t.subpic_ids u.subpic_ids
   pub tile_column_widths : SameTable t.tile_column_widths u.tile_column_widths
   pub tile_row_heights : SameTable t.tile_row_heights u.tile_row_heights
+  pub entries : SameTable t.entries u.entries
+  pub split_heights : SameTable t.split_heights u.split_heights
+
+pub record SameSlices (t u : SliceTablesMut) : Type 0 where
   pub entries : SameTable t.entries u.entries
   pub split_heights : SameTable t.split_heights u.split_heights

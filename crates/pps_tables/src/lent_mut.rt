@@ -18,6 +18,13 @@ pub struct LentTablesMut<'a> {
     pub split_heights: &'a mut [u32],
 }
 
+// The tables of the slice entries alone.
+#[derive(Drop)]
+pub struct SliceTablesMut<'a> {
+    pub entries: &'a mut [[u32; ENTRY_LEN]],
+    pub split_heights: &'a mut [u32],
+}
+
 impl LentTablesMut<'_> {
     // The test of 5.
     pub fn are_long(&self) -> bool

@@ -1,4 +1,4 @@
-use Rattle.pps_syntax.specs.SliceTables.{slice_tables}
+use Rattle.pps_tables.specs.LentMut.{slices_now}
 use Rattle.pps_partition.proofs.Slices.{slices-coded, slices-put, slices-absent, slices-unput}
 use Rattle.pps_partition.proofs.slicing.read_coded_slices.Goals as goal
 
@@ -12,4 +12,4 @@ pub returns-else-coded-clause-gives : goal.returns-else-coded-clause-gives
 returns-else-coded-clause-gives c = λ g h. slices-absent _ g _ _ c.if-coded.false
 
 pub returns-else-coded-clause-tables : goal.returns-else-coded-clause-tables
-returns-else-coded-clause-tables c = λ g h. slices-unput _ g _ _ c.args.r.now (slice_tables c.args.entries.now c.args.split_heights.now) c.if-coded.false
+returns-else-coded-clause-tables c = λ g h. slices-unput _ g _ _ c.args.r.now (slices_now c.args.tables.now) c.if-coded.false
