@@ -12,7 +12,6 @@ use pps_record::{VvcPps, VvcPpsPartition, VvcQpOffsets};
 use refusal::Refusal;
 
 pub mod before;
-pub mod clear;
 
 // The record, the triples of its chroma list, which are those in use and then zeros, and how many bytes of the RBSP the
 // set took.

@@ -5,14 +5,14 @@ ghost use Rattle.std.specs.Prelude.{◌≡◌};
 ghost use Rattle.std.proofs.lemmas.List.Edits.{sets};
 ghost use Rattle.bit_reader.specs.Gives.{Gives, cursor_of, held_as, value_read};
 ghost use Rattle.pps_syntax.specs.PartitionSyntax.{partition};
-ghost use Rattle.pps_tables.specs.Mutable.{slices_before, slices_after};
+ghost use Rattle.pps_tables.specs.LentMut.{lent_now, SameTables};
 ghost use Rattle.syntax.specs.Syntax.{parse};
 ghost use Rattle.pps_slices.specs.Loop.{slices_left};
 ghost use Rattle.pps_partition.specs.PartitionAnswer.{one_block, partition_left};
 
 use bit_reader::BitReader;
 use pps_record::VvcPpsPartition;
-use pps_tables::ENTRY_LEN;
+use pps_tables::{LentTablesMut, SliceTablesMut};
 use refusal::Refusal;
 use slicing::read_slicing;
 use tile_sizes::MAX_TILES;
@@ -27,28 +27,34 @@ pub fn read_partition(
     r: &mut BitReader<'_>,
     width: u32,
     height: u32,
-    tile_column_widths: &mut [u32],
-    tile_row_heights: &mut [u32],
-    entries: &mut [[u32; ENTRY_LEN]],
-    split_heights: &mut [u32],
+    tables: &mut LentTablesMut<'_>,
 ) -> Result<VvcPpsPartition, Refusal>
     ensures answer { Gives (held_as one_block (parse (partition width height))) r.old r.new result }
-    ensures columns { tile_column_widths.new
-        ≡ sets tile_column_widths.old 0
+    ensures columns { tables.new.tile_column_widths.now
+        ≡ sets tables.old.tile_column_widths.now 0
         (value_read (parse (partition width height)) r.old).pps_tile_column_width_minus1 }
-    ensures rows { tile_row_heights.new
-        ≡ sets tile_row_heights.old 0
+    ensures rows { tables.new.tile_row_heights.now
+        ≡ sets tables.old.tile_row_heights.now 0
         (value_read (parse (partition width height)) r.old).pps_tile_row_height_minus1 }
-    ensures slices { slices_after entries split_heights
-        ≡ slices_left (slices_before entries split_heights) 0 0
+    ensures slices { (lent_now tables.new).slices
+        ≡ slices_left (lent_now tables.old).slices 0 0
         (value_read (parse (partition width height)) r.old).rect_slices
         (partition_left width height r.old.bytes.now (cursor_of r.old)) }
+    ensures subpic_ids { tables.new.subpic_ids.now ≡ tables.old.subpic_ids.now }
+    ensures same_tables { SameTables tables.old tables.new }
 {
     // The grid wants all row heights, and the lent table may be shorter. They are read over a copy of its front, which
-    // goes back there also where reading is refused.
+    // goes back there also where reading is refused. (What is lent as `&` straight from the struct is forgotten.)
     let mut row_heights = [0u32; MAX_TILES as usize];
+    let tile_row_heights = &mut *tables.tile_row_heights;
     copy_front(tile_row_heights, &mut row_heights);
-    let read = read_tile_sizes(r, width, height, tile_column_widths, &mut row_heights);
+    let read = read_tile_sizes(
+        r,
+        width,
+        height,
+        tables.tile_column_widths,
+        &mut row_heights,
+    );
     copy_front(&row_heights, tile_row_heights);
     let sizes = read?;
     let columns = sizes.columns;
@@ -56,12 +62,15 @@ pub fn read_partition(
     test_axes(columns, rows)?;
     spread(&mut row_heights, rows, sizes.pic_height);
     let num_tile_rows = rows.sizes as usize;
+    let mut slices = SliceTablesMut {
+        entries: tables.entries,
+        split_heights: tables.split_heights,
+    };
     let slicing = read_slicing(
         r,
         columns.sizes as u8,
         &row_heights[..num_tile_rows],
-        entries,
-        split_heights,
+        &mut slices,
     )?;
     let flags = slicing.flags;
     Ok(VvcPpsPartition {

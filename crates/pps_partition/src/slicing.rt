@@ -3,7 +3,7 @@
 ghost use Rattle.std.specs.Prelude.{◌≤◌, ◌≡◌, length, take};
 ghost use Rattle.bit_reader.specs.Gives.{Gives, cursor_of, held_as, value_read};
 ghost use Rattle.partition.specs.Grid.{Grid, max_tiles};
-ghost use Rattle.pps_tables.specs.Mutable.{slices_before, slices_after};
+ghost use Rattle.pps_tables.specs.LentMut.{slices_now, SameSlices};
 ghost use Rattle.syntax.specs.Syntax.{parse};
 ghost use Rattle.pps_slices.specs.Grids.{GridHas};
 ghost use Rattle.pps_slices.specs.Loop.{slices_left};
@@ -13,7 +13,7 @@ ghost use Rattle.pps_partition.specs.Slicing.{slices_if, left_if, slicing, slici
 use bit_reader::BitReader;
 use pps_fields::fields::{flag_or, ue_at_most_or};
 use pps_slices::read_rect_slices;
-use pps_tables::ENTRY_LEN;
+use pps_tables::SliceTablesMut;
 use refusal::Refusal;
 use slice_loop::SliceIdx;
 use tile_sizes::MAX_NUM_SLICES_MINUS1;
@@ -53,16 +53,15 @@ pub fn read_coded_slices(
     row_heights: &[u32],
     deltas_coded: bool,
     n: u32,
-    entries: &mut [[u32; ENTRY_LEN]],
-    split_heights: &mut [u32],
+    tables: &mut SliceTablesMut<'_>,
 ) -> Result<u32, Refusal>
     ensures gives { (g : Grid) → GridHas num_tile_columns (take max_tiles row_heights.now) g
         → Gives (held_as length (slices_if coded g deltas_coded n).read) r.old r.new result }
     ensures tables { (g : Grid) → GridHas num_tile_columns (take max_tiles row_heights.now) g
-        → slices_after entries split_heights
-        ≡ slices_left (slices_before entries split_heights) 0 0
+        → slices_now tables.new ≡ slices_left (slices_now tables.old) 0 0
         (value_read (slices_if coded g deltas_coded n).read r.old)
         (left_if coded g deltas_coded n r.old.bytes.now (cursor_of r.old)) }
+    ensures same_tables { SameSlices tables.old tables.new }
 {
     if coded {
         read_rect_slices(
@@ -71,8 +70,7 @@ pub fn read_coded_slices(
             row_heights,
             deltas_coded,
             SliceIdx(n),
-            entries,
-            split_heights,
+            tables,
         )
     } else {
         Ok(0)
@@ -92,17 +90,16 @@ pub fn read_slicing(
     r: &mut BitReader<'_>,
     num_tile_columns: u8,
     row_heights: &[u32],
-    entries: &mut [[u32; ENTRY_LEN]],
-    split_heights: &mut [u32],
+    tables: &mut SliceTablesMut<'_>,
 ) -> Result<SlicingRead, Refusal>
     requires { length row_heights.now ≤ max_tiles }
     ensures gives { (g : Grid) → GridHas num_tile_columns row_heights.now g
         → Gives (held_as slicing_kept (parse (slicing g))) r.old r.new result }
     ensures tables { (g : Grid) → GridHas num_tile_columns row_heights.now g
-        → slices_after entries split_heights
-        ≡ slices_left (slices_before entries split_heights) 0 0
+        → slices_now tables.new ≡ slices_left (slices_now tables.old) 0 0
         (value_read (parse (slicing g)) r.old).rect_slices
         (slicing_left g r.old.bytes.now (cursor_of r.old)) }
+    ensures same_tables { SameSlices tables.old tables.new }
 {
     let several = row_heights.len() * num_tile_columns as usize > 1;
     let flags = read_flags(r, several)?;
@@ -114,8 +111,7 @@ pub fn read_slicing(
         row_heights,
         flags.deltas != 0,
         flags.num_slices_minus1,
-        entries,
-        split_heights,
+        tables,
     )?;
     let one = coded & (flags.num_slices_minus1 == 0);
     let across_slices = flag_or(r, !one, 0);

@@ -13,9 +13,10 @@ use Rattle.pps_slices.specs.Loop.{slices_left}
 use Rattle.pps_partition.specs.PartitionAnswer.{one_block, partition_left}
 use Rattle.pps_partition.proofs.NothingLeft.{slices_accepted}
 use Rattle.pps_record.specs.declared.VvcPpsPartition.{VvcPpsPartition}
+use Rattle.pps_syntax.specs.FromRecord.{Lent}
 use Rattle.pps_syntax.specs.PartitionSyntax.{PartitionBlock, partition}
 use Rattle.pps_syntax.specs.Record.{partition_record}
-use Rattle.pps_syntax.specs.SliceTables.{SliceTables, put_slices, all_split_heights}
+use Rattle.pps_syntax.specs.SliceTables.{put_slices, all_split_heights}
 use Rattle.syntax.specs.Elements.{or_else, one_if}
 use Rattle.syntax.specs.Lists.{many, not-true}
 use Rattle.syntax.specs.Syntax.{parse}
@@ -28,46 +29,50 @@ of_one W H s c true e = rw e
 of_one W H s c false e = rw e
 
 -- one that was read
-blocks-put : (b : PartitionBlock) (bs : List PartitionBlock) (c₀ r₀ : List ℕ) (t₀ : SliceTables) {c₁ r₁ : List ℕ} {t₁ : SliceTables} → bs ≡ b ∷ []
-    → c₁ ≡ sets c₀ 0 b.pps_tile_column_width_minus1 → r₁ ≡ sets r₀ 0 b.pps_tile_row_height_minus1 → t₁ ≡ put_slices t₀ 0 0 b.rect_slices
-    → (length bs ≡ 1) × BlocksPut bs c₀ c₁ r₀ r₁ t₀ t₁
-blocks-put b bs c₀ r₀ t₀ e c r t = rw e (refl, record { columns = c; rows = r; slices = t })
+blocks-put : (b : PartitionBlock) (bs : List PartitionBlock) (t u : Lent) → bs ≡ b ∷ []
+    → u.column_widths ≡ sets t.column_widths 0 b.pps_tile_column_width_minus1 → u.row_heights ≡ sets t.row_heights 0 b.pps_tile_row_height_minus1
+    → u.slices ≡ put_slices t.slices 0 0 b.rect_slices → (length bs ≡ 1) × BlocksPut bs t u
+blocks-put b bs t u e c r s = rw e (refl, record { columns = c; rows = r; slices = s })
 
-module _ (W H : ℕ) {p q : BitReader} (c₀ r₀ : List ℕ) (t₀ : SliceTables) (c₁ r₁ : List ℕ) (t₁ : SliceTables) where
-  block-there : {x : Result VvcPpsPartition Refusal} → Gives (held_as one_block (parse (partition W H))) p q x
-      → c₁ ≡ sets c₀ 0 (value_read (parse (partition W H)) p).pps_tile_column_width_minus1
-      → r₁ ≡ sets r₀ 0 (value_read (parse (partition W H)) p).pps_tile_row_height_minus1
-      → t₁ ≡ slices_left t₀ 0 0 (value_read (parse (partition W H)) p).rect_slices (partition_left W H p.bytes.now (cursor_of p))
-      → Gives (held_as blocks_record (blocks_read true W H)) p q x
-      × OnOk x ((length (value_read (blocks_read true W H) p) ≡ 1) × BlocksPut (value_read (blocks_read true W H) p) c₀ c₁ r₀ r₁ t₀ t₁)
+module _ (W H : ℕ) {p q : BitReader} where
+  block-is : {w : VvcPpsPartition} → Gives (held_as one_block (parse (partition W H))) p q (Ok w)
+      → blocks_read true W H p.bytes.now (cursor_of p) ≡ parsed (value_read (parse (partition W H)) p ∷ []) (parse (partition W H) p.bytes.now (cursor_of p)).next
+  block-is g =
+      let zero : (parse (partition W H) p.bytes.now (cursor_of p)).next.refused ≡ 0 = ap (λ (y : Parsed VvcPpsPartition). y.next.refused) (sym (given_back g)) in
+      of_one W H p.bytes.now (cursor_of p) true (eq-eqb _ 0 zero)
+
+  answer-there : {x : Result VvcPpsPartition Refusal} → Gives (held_as one_block (parse (partition W H))) p q x → Gives (held_as blocks_record (blocks_read true W H)) p q x
   unfolding blocks_record
-  block-there {x = Ok w} g c r t =
-      let v = value_read (parse (partition W H)) p in
-      let e = given_back g in
-      let zero : (parse (partition W H) p.bytes.now (cursor_of p)).next.refused ≡ 0 = ap (λ (y : Parsed VvcPpsPartition). y.next.refused) (sym e) in
-      let is : blocks_read true W H p.bytes.now (cursor_of p) ≡ parsed (v ∷ []) (parse (partition W H) p.bytes.now (cursor_of p)).next = of_one W H p.bytes.now (cursor_of p) true (eq-eqb _ 0 zero) in (
-        given g.bytes (e ∙ ap (λ (y : Parsed (List PartitionBlock)). parsed (blocks_record y.value) y.next) (sym is)),
-        blocks-put v (value_read (blocks_read true W H) p) c₀ r₀ t₀ (ap (λ (y : Parsed (List PartitionBlock)). y.value) is) c r (slices_accepted W H g t₀ t₁ t),
-      )
-  block-there {x = Err e} g c r t =
+  answer-there {x = Ok w} g = given g.bytes (given_back g ∙ ap (λ (y : Parsed (List PartitionBlock)). parsed (blocks_record y.value) y.next) (sym (block-is g)))
+  answer-there {x = Err e} g =
       let is : refusal (cursor_of q) (number e) ≡ (parse (partition W H) p.bytes.now (cursor_of p)).next = refused_back g in
       let shut = of_one W H p.bytes.now (cursor_of p) false (ne_eqb _ 0 (not-0 e q.bit_pos is)) in
-      (refuses g.bytes (is ∙ ap (λ (y : Parsed (List PartitionBlock)). y.next) (sym shut)), tt)
+      refuses g.bytes (is ∙ ap (λ (y : Parsed (List PartitionBlock)). y.next) (sym shut))
 
   -- with its condition
-  pub block-read : (on : Bool) {x : Result VvcPpsPartition Refusal} → on ≡ true → Gives (held_as one_block (parse (partition W H))) p q x
-      → c₁ ≡ sets c₀ 0 (value_read (parse (partition W H)) p).pps_tile_column_width_minus1
-      → r₁ ≡ sets r₀ 0 (value_read (parse (partition W H)) p).pps_tile_row_height_minus1
-      → t₁ ≡ slices_left t₀ 0 0 (value_read (parse (partition W H)) p).rect_slices (partition_left W H p.bytes.now (cursor_of p))
+  pub block-answer : (on : Bool) {x : Result VvcPpsPartition Refusal} → on ≡ true → Gives (held_as one_block (parse (partition W H))) p q x
       → Gives (held_as blocks_record (blocks_read on W H)) p q x
-      × OnOk x ((length (value_read (blocks_read on W H) p) ≡ one_if on) × BlocksPut (value_read (blocks_read on W H) p) c₀ c₁ r₀ r₁ t₀ t₁)
-  block-read true o g c r t = block-there g c r t
-  block-read false o g c r t = absurd (not-true o)
+  block-answer true o g = answer-there g
+  block-answer false o g = absurd (not-true o)
+
+  pub block-tables : (on : Bool) (t u : Lent) {x : Result VvcPpsPartition Refusal} → on ≡ true → Gives (held_as one_block (parse (partition W H))) p q x
+      → u.column_widths ≡ sets t.column_widths 0 (value_read (parse (partition W H)) p).pps_tile_column_width_minus1
+      → u.row_heights ≡ sets t.row_heights 0 (value_read (parse (partition W H)) p).pps_tile_row_height_minus1
+      → u.slices ≡ slices_left t.slices 0 0 (value_read (parse (partition W H)) p).rect_slices (partition_left W H p.bytes.now (cursor_of p))
+      → OnOk x ((length (value_read (blocks_read on W H) p) ≡ one_if on) × BlocksPut (value_read (blocks_read on W H) p) t u)
+  block-tables true t u {x = Ok w} o g c r s =
+      blocks-put (value_read (parse (partition W H)) p) (value_read (blocks_read true W H) p) t u (ap (λ (y : Parsed (List PartitionBlock)). y.value) (block-is g)) c r (slices_accepted W H g t.slices u.slices s)
+  block-tables true t u {x = Err e} o g c r s = tt
+  block-tables false t u o g c r s = absurd (not-true o)
 
 -- none
-pub no-block : (on : Bool) (W H : ℕ) {p : BitReader} (c r : List ℕ) (t : SliceTables) → on ≡ false
-    → Gives (held_as blocks_record (blocks_read on W H)) p p (Ok (partition_record 0 []))
-    × ((length (value_read (blocks_read on W H) p) ≡ one_if on) × BlocksPut (value_read (blocks_read on W H) p) c c r r t t)
-unfolding or_else blocks_record put_slices all_split_heights
-no-block false W H c r t o = (given refl refl, (refl, record { columns = refl; rows = refl; slices = refl }))
-no-block true W H c r t o = absurd (not-true (sym o))
+pub none-answer : (on : Bool) (W H : ℕ) {p : BitReader} → on ≡ false → Gives (held_as blocks_record (blocks_read on W H)) p p (Ok (partition_record 0 []))
+unfolding or_else blocks_record
+none-answer false W H o = given refl refl
+none-answer true W H o = absurd (not-true (sym o))
+
+pub none-tables : (on : Bool) (W H : ℕ) (p : BitReader) (t : Lent) → on ≡ false
+    → (length (value_read (blocks_read on W H) p) ≡ one_if on) × BlocksPut (value_read (blocks_read on W H) p) t t
+unfolding or_else put_slices all_split_heights
+none-tables false W H p t o = (refl, record { columns = refl; rows = refl; slices = refl })
+none-tables true W H p t o = absurd (not-true (sym o))

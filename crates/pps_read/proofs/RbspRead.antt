@@ -15,7 +15,7 @@ use Rattle.bit_reader.proofs.Gives.{given, given_back, refused_back, not-0, over
 use Rattle.pps_record.specs.declared.VvcPpsPartition.{VvcPpsPartition}
 use Rattle.pps_syntax.specs.Pps.{Front, Pps, front, back, pps, partitioned, pic_width, pic_height}
 use Rattle.pps_syntax.specs.Rbsp.{ReadSet, accepted, refused, extension_for, behind_extension, answered, read_rbsp}
-use Rattle.pps_syntax.specs.FromRecord.{lent}
+use Rattle.pps_syntax.specs.FromRecord.{Lent, lent}
 use Rattle.pps_syntax.specs.Record.{record_of}
 use Rattle.pps_syntax.specs.SliceTables.{SliceTables}
 use Rattle.pps_syntax.proofs.ReadWhole.{read_whole}
@@ -84,6 +84,19 @@ module _ {s : Bor (List ℕ)} {q r : BitReader} (set : Pps) (b : q.bytes ≡ s) 
       let is : refusal (cursor_of r) (number e) ≡ (ends s q set).next = refused_back (over b g) in
       ap (λ (c : Cursor). Refused c.refused) is ∙ rw (ne_eqb (ends s q set).next.refused 0 (not-0 e r.bit_pos is))
 
+same-lent : (u : Lent) {ids columns rows : List ℕ} {slices : SliceTables} → u.subpic_ids ≡ ids → u.column_widths ≡ columns → u.row_heights ≡ rows → u.slices ≡ slices → u ≡ lent ids columns rows slices
+same-lent u a b c d = rw (← a, ← b, ← c, ← d)
+
+-- ---- its lists, those of the block behind the ids
+all-put : (set : Pps) (before t u : Lent) → t ≡ record before { subpic_ids = sets before.subpic_ids 0 set.front.subpic_ids.pps_subpic_id } → u.subpic_ids ≡ t.subpic_ids
+    → BlocksPut set.partition t u → u ≡ put_lists set before
+unfolding put_lists
+all-put set before t u e i b =
+    let w : Lent = record before { subpic_ids = sets before.subpic_ids 0 set.front.subpic_ids.pps_subpic_id } in
+    let c : BlocksPut set.partition w u = subst (λ (x : Lent). BlocksPut set.partition x u) e b in
+    let j : u.subpic_ids ≡ w.subpic_ids = i ∙ ap (λ (x : Lent). x.subpic_ids) e in
+    same-lent u j c.columns c.rows c.slices
+
 -- ---- as code comes to it
 abbrev pub front_at : Bor (List ℕ) → Front
 front_at s = value_read (parse front) (start s)
@@ -145,13 +158,13 @@ module _ {s : Bor (List ℕ)} {f : FrontRead} {p : BitReader} (F : Gives (held_a
       unfolding pps ◌>>=◌
       set-there = follows pps (front-there ⟫ given refl refl ⟫ block-there ⟫ held_back back_of {read = parse (back (parted (front_at s)))} (back_is K) ⟫ end)
 
-      module _ (c₀ r₀ : List ℕ) (t₀ : SliceTables) {c₁ r₁ : List ℕ} {t₁ : SliceTables}
+      module _ (t u : Lent)
           (T : let blocks = value_read (blocks_read (eqb f.kind.pps_no_pic_partition_flag 0) f.head.pps_pic_width_in_luma_samples f.head.pps_pic_height_in_luma_samples) p in
-          (length blocks ≡ one_if (eqb f.kind.pps_no_pic_partition_flag 0)) × BlocksPut blocks c₀ c₁ r₀ r₁ t₀ t₁) where
-        put : (length (set_at (front_at s) p q).partition ≡ one_if (parted (front_at s))) × BlocksPut (set_at (front_at s) p q).partition c₀ c₁ r₀ r₁ t₀ t₁
+          (length blocks ≡ one_if (eqb f.kind.pps_no_pic_partition_flag 0)) × BlocksPut blocks t u) where
+        put : (length (set_at (front_at s) p q).partition ≡ one_if (parted (front_at s))) × BlocksPut (set_at (front_at s) p q).partition t u
         put =
             by-front (λ (k : FrontRead). let blocks = value_read (blocks_read (eqb k.kind.pps_no_pic_partition_flag 0) k.head.pps_pic_width_in_luma_samples k.head.pps_pic_height_in_luma_samples) p in
-            (length blocks ≡ one_if (eqb k.kind.pps_no_pic_partition_flag 0)) × BlocksPut blocks c₀ c₁ r₀ r₁ t₀ t₁) T
+            (length blocks ≡ one_if (eqb k.kind.pps_no_pic_partition_flag 0)) × BlocksPut blocks t u) T
 
         pub answer-made : {z : BitReader} {x : Result AcceptedPps Refusal} → Gives (answer_from f b k) r z x → said x ≡ answer_of (read_rbsp s.now)
         answer-made {z} {x} g =
@@ -162,12 +175,12 @@ module _ {s : Bor (List ℕ)} {f : FrontRead} {p : BitReader} (F : Gives (held_a
             (subst (λ (n : BackRead). Gives (answer_from f b n) r z x) (sym (back_is K).value) g)) in
             ended set set-there.bytes put.0 h ∙ ap answer_of (answered-is set set-there)
 
-        pub lists-made : (ids₀ : List ℕ) {ids₁ : List ℕ} → ids₁ ≡ sets ids₀ 0 (front_at s).subpic_ids.pps_subpic_id → (a : ReadSet) → read_rbsp s.now ≡ accepted a
-            → lent ids₁ c₁ r₁ t₁ ≡ put_lists a.set (lent ids₀ c₀ r₀ t₀)
-        unfolding put_lists
-        lists-made ids₀ I a z =
+        -- the ids were put before the block
+        pub lists-made : (before : Lent) → t ≡ record before { subpic_ids = sets before.subpic_ids 0 (front_at s).subpic_ids.pps_subpic_id } → u.subpic_ids ≡ t.subpic_ids
+            → (a : ReadSet) → read_rbsp s.now ≡ accepted a → u ≡ put_lists a.set before
+        lists-made before e i a z =
             let is : a.set ≡ set_at (front_at s) p q = (read_whole s.now a z).set_is ∙ set-there.value in
-            rw is (rw (I, put.1.columns, put.1.rows, put.1.slices))
+            rw is (all-put (set_at (front_at s) p q) before t u e i put.1)
 
 -- what is said at a refusal
 pub said-refused : (x : Result AcceptedPps Refusal) (e : Refusal) → IsErr x × IsErrAnd x (λ y. y ≡ e) → said x ≡ Refused (number e)

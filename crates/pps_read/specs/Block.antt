@@ -4,9 +4,10 @@ use Rattle.std.proofs.lemmas.List.Edits.{sets}
 use Rattle.bit_reader.specs.declared.Cursor.{Cursor}
 use Rattle.bit_reader.specs.Gives.{Parsed}
 use Rattle.pps_record.specs.declared.VvcPpsPartition.{VvcPpsPartition}
+use Rattle.pps_syntax.specs.FromRecord.{Lent}
 use Rattle.pps_syntax.specs.PartitionSyntax.{PartitionBlock, partition_element}
 use Rattle.pps_syntax.specs.Record.{partition_record}
-use Rattle.pps_syntax.specs.SliceTables.{SliceTables, put_slices}
+use Rattle.pps_syntax.specs.SliceTables.{put_slices}
 use Rattle.syntax.specs.Elements.{or_else}
 use Rattle.syntax.specs.Lists.{many, none}
 use Rattle.pps_answer.specs.Lending.{columns_of, rows_of, slices_of}
@@ -19,7 +20,7 @@ unfoldable pub blocks_record : List PartitionBlock → VvcPpsPartition
 blocks_record ps = partition_record (length ps) ps
 
 -- its lists in their tables
-pub record BlocksPut (bs : List PartitionBlock) (c₀ c₁ r₀ r₁ : List ℕ) (t₀ t₁ : SliceTables) : Type 0 where
-  pub columns : c₁ ≡ sets c₀ 0 (columns_of bs)
-  pub rows : r₁ ≡ sets r₀ 0 (rows_of bs)
-  pub slices : t₁ ≡ put_slices t₀ 0 0 (slices_of bs)
+pub record BlocksPut (bs : List PartitionBlock) (t u : Lent) : Type 0 where
+  pub columns : u.column_widths ≡ sets t.column_widths 0 (columns_of bs)
+  pub rows : u.row_heights ≡ sets t.row_heights 0 (rows_of bs)
+  pub slices : u.slices ≡ put_slices t.slices 0 0 (slices_of bs)

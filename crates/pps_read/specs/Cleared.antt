@@ -17,7 +17,8 @@ use Rattle.refusal.specs.declared.Refusal.{Refusal}
 use Rattle.refusal.specs.Numbers.{number}
 use Rattle.pps_answer.specs.declared.AcceptedPps.{AcceptedPps}
 use Rattle.pps_answer.specs.Answers.{Accepted, Refused, said, answer_of}
-use Rattle.pps_answer.specs.Lending.{columns_of, rows_of, zeros, cleared_slices, cleared, filled, put_lists, after_fields}
+use Rattle.pps_tables.specs.Cleared.{zeros, cleared_slices, cleared}
+use Rattle.pps_answer.specs.Lending.{columns_of, rows_of, filled, put_lists, after_fields}
 
 record Lengths (ids columns rows : ℕ) : Type 0 where
   pub ids_long : max_subpics ≤ ids

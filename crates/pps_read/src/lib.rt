@@ -1,10 +1,10 @@
 // Reading a picture parameter set (the Rust's parse_pps).
 #![tactic(auto)]
 
-ghost use Rattle.std.specs.Prelude.{true, ◌≡◌, length};
-ghost use Rattle.pps_syntax.specs.FromRecord.{lengths_fit};
+ghost use Rattle.std.specs.Prelude.{true, ◌≡◌};
+ghost use Rattle.pps_syntax.specs.FromRecord.{tables_long};
 ghost use Rattle.pps_syntax.specs.Rbsp.{read_rbsp};
-ghost use Rattle.pps_tables.specs.Mutable.{before, after};
+ghost use Rattle.pps_tables.specs.LentMut.{lent_now, SameTables};
 ghost use Rattle.pps_answer.specs.Answers.{said, answer_of};
 ghost use Rattle.pps_answer.specs.Lending.{after_fields};
 ghost use Rattle.pps_answer.specs.ParsePps.{outcome, parse_pps};
@@ -12,8 +12,7 @@ ghost use Rattle.pps_answer.specs.ParsePps.{outcome, parse_pps};
 use payload::unescape_payload;
 use pps_answer::AcceptedPps;
 use pps_answer::before::before_fields;
-use pps_answer::clear::clear_tables;
-use pps_tables::{ENTRY_LEN, tables_long};
+use pps_tables::LentTablesMut;
 use rbsp::read_rbsp;
 use refusal::Refusal;
 
@@ -21,45 +20,17 @@ mod payload;
 mod rbsp;
 
 // Reads an RBSP into tables that are cleared before, and again where it is refused.
-fn read_into_cleared(
-    s: &[u8],
-    subpic_ids: &mut [u32],
-    tile_column_widths: &mut [u32],
-    tile_row_heights: &mut [u32],
-    entries: &mut [[u32; ENTRY_LEN]],
-    split_heights: &mut [u32],
-) -> Result<AcceptedPps, Refusal>
-    requires { lengths_fit (length subpic_ids.old) (length tile_column_widths.old)
-        (length tile_row_heights.old) (length entries.old) (length split_heights.old) ≡ true }
+fn read_into_cleared(s: &[u8], tables: &mut LentTablesMut<'_>) -> Result<AcceptedPps, Refusal>
+    requires { tables_long (lent_now tables.old) ≡ true }
     ensures answer { said result ≡ answer_of (read_rbsp s.now) }
-    ensures tables { after subpic_ids tile_column_widths tile_row_heights entries split_heights
-        ≡ after_fields (read_rbsp s.now)
-        (before subpic_ids tile_column_widths tile_row_heights entries split_heights) }
+    ensures tables { lent_now tables.new ≡ after_fields (read_rbsp s.now) (lent_now tables.old) }
+    ensures same_tables { SameTables tables.old tables.new }
 {
-    clear_tables(
-        subpic_ids,
-        tile_column_widths,
-        tile_row_heights,
-        entries,
-        split_heights,
-    );
-    match read_rbsp(
-        s,
-        subpic_ids,
-        tile_column_widths,
-        tile_row_heights,
-        entries,
-        split_heights,
-    ) {
+    tables.clear();
+    match read_rbsp(s, tables) {
         Ok(read) => Ok(read),
         Err(refusal) => {
-            clear_tables(
-                subpic_ids,
-                tile_column_widths,
-                tile_row_heights,
-                entries,
-                split_heights,
-            );
+            tables.clear();
             Err(refusal)
         }
     }
@@ -70,32 +41,13 @@ fn read_into_cleared(
 pub fn parse_pps(
     nal: &[u8],
     work: &mut [u8],
-    subpic_ids: &mut [u32],
-    tile_column_widths: &mut [u32],
-    tile_row_heights: &mut [u32],
-    entries: &mut [[u32; ENTRY_LEN]],
-    split_heights: &mut [u32],
+    tables: &mut LentTablesMut<'_>,
 ) -> Result<AcceptedPps, Refusal>
-    ensures { outcome (said result) work.new
-        (after subpic_ids tile_column_widths tile_row_heights entries split_heights)
-        ≡ parse_pps nal.now work.old
-        (before subpic_ids tile_column_widths tile_row_heights entries split_heights) }
+    ensures outcome { outcome (said result) work.new (lent_now tables.new)
+        ≡ parse_pps nal.now work.old (lent_now tables.old) }
+    ensures same_tables { SameTables tables.old tables.new }
 {
-    let long = tables_long(
-        subpic_ids.len(),
-        tile_column_widths.len(),
-        tile_row_heights.len(),
-        entries.len(),
-        split_heights.len(),
-    );
-    before_fields(nal, work.len(), long)?;
+    before_fields(nal, work.len(), tables.are_long())?;
     let count = unescape_payload(nal, work);
-    read_into_cleared(
-        &work[..count],
-        subpic_ids,
-        tile_column_widths,
-        tile_row_heights,
-        entries,
-        split_heights,
-    )
+    read_into_cleared(&work[..count], tables)
 }

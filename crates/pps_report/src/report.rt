@@ -9,7 +9,7 @@ use pps_read::parse_pps;
 use pps_record::lengths::{
     RECT_SLICES, SPLIT_HEIGHTS, SUBPIC_IDS, TILE_COLUMN_WIDTHS, TILE_ROW_HEIGHTS,
 };
-use pps_tables::{ENTRY_LEN, LentTables, SliceTables};
+use pps_tables::{ENTRY_LEN, LentTables, LentTablesMut, SliceTables};
 use refusal::Refusal;
 use tile_grid::{Cover, SlicePlan, SliceRect, TileGrid};
 
@@ -112,23 +112,23 @@ pub fn report_of(nal: &[u8]) -> Result<Report, Refusal>
     let mut tile_row_heights = [0u32; TILE_ROW_HEIGHTS];
     let mut entries = [[0u32; ENTRY_LEN]; RECT_SLICES];
     let mut split_heights = [0u32; SPLIT_HEIGHTS];
-    let accepted = parse_pps(
-        nal,
-        &mut work,
-        &mut subpic_ids,
-        &mut tile_column_widths,
-        &mut tile_row_heights,
-        &mut entries,
-        &mut split_heights,
-    )?;
+    let mut tables = LentTablesMut {
+        subpic_ids: &mut subpic_ids,
+        tile_column_widths: &mut tile_column_widths,
+        tile_row_heights: &mut tile_row_heights,
+        entries: &mut entries,
+        split_heights: &mut split_heights,
+    };
+    let accepted = parse_pps(nal, &mut work, &mut tables)?;
+    let slices = SliceTables {
+        entries: &entries,
+        split_heights: &split_heights,
+    };
     let lent = LentTables {
         subpic_ids: &subpic_ids,
         tile_column_widths: &tile_column_widths,
         tile_row_heights: &tile_row_heights,
-        slices: SliceTables {
-            entries: &entries,
-            split_heights: &split_heights,
-        },
+        slices,
     };
     Ok(accepted_report(accepted, lent))
 }

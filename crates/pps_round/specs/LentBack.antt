@@ -9,7 +9,8 @@ use Rattle.std.proofs.Math.Seq.{length-sets}
 use Rattle.codes.specs.Bytes.{bit_count, bit_at, bit_in, bit_list}
 use Rattle.codes.specs.Symbols.{refusal_in}
 use Rattle.partition.specs.Grid.{max_tile_columns, max_tiles, max_slices_minus1, max_slices}
-use Rattle.pps_answer.specs.Lending.{columns_of, rows_of, slices_of, zeros, cleared_slices, cleared, filled}
+use Rattle.pps_tables.specs.Cleared.{zeros, cleared_slices, cleared}
+use Rattle.pps_answer.specs.Lending.{columns_of, rows_of, slices_of, filled}
 use Rattle.pps_tables.specs.Rows.{no_entry}
 use Rattle.pps_round.specs.SetBack.{Long, room_of, entries-counted}
 use Rattle.pps_round.specs.SlicesBack.{AllCounted, put_entries, total-back}

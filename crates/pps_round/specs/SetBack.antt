@@ -5,7 +5,8 @@ use Rattle.std.proofs.lemmas.List.{length-map}
 use Rattle.codes.specs.Symbols.{refusal_in}
 use Rattle.partition.specs.Entry.{first_position}
 use Rattle.partition.specs.Grid.{Grid, max_tile_columns, max_tiles, max_slices_minus1, max_slices}
-use Rattle.pps_answer.specs.Lending.{columns_of, rows_of, slices_of, cleared_slices, cleared, filled}
+use Rattle.pps_tables.specs.Cleared.{cleared_slices, cleared}
+use Rattle.pps_answer.specs.Lending.{columns_of, rows_of, slices_of, filled}
 use Rattle.pps_tables.specs.Rows.{no_entry}
 use Rattle.pps_round.specs.SlicesBack.{AllCounted, Room, put_entries, slices-back, slices-counted}
 use Rattle.pps_syntax.specs.Chroma.{Triple, ChromaToolOffsets, chroma, triple_element}

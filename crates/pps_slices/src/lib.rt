@@ -7,14 +7,14 @@ ghost use Rattle.bit_reader.specs.Gives.{Gives, cursor_of, held_as, value_read};
 ghost use Rattle.partition.specs.Entry.{first_position};
 ghost use Rattle.partition.specs.Grid.{Grid, max_tiles};
 ghost use Rattle.pps_syntax.specs.SliceSyntax.{rect_slices};
-ghost use Rattle.pps_tables.specs.Mutable.{slices_before, slices_after};
+ghost use Rattle.pps_tables.specs.LentMut.{slices_now, SameSlices};
 ghost use Rattle.slice_loop.specs.Loop.{LoopOver};
 ghost use Rattle.pps_slices.specs.Grids.{GridHas};
 ghost use Rattle.pps_slices.specs.Loop.{slices_left, refused_heights};
 
 use bit_reader::BitReader;
 use entry::{LoopPosition, read_rect_slice};
-use pps_tables::ENTRY_LEN;
+use pps_tables::SliceTablesMut;
 use put::put_slice;
 use refusal::Refusal;
 use slice_loop::{SliceIdx, SliceLoopCtx, TileIdx};
@@ -30,8 +30,7 @@ fn read_loop(
     r: &mut BitReader<'_>,
     row_heights: &[u32],
     ctx: SliceLoopCtx,
-    entries: &mut [[u32; ENTRY_LEN]],
-    split_heights: &mut [u32],
+    tables: &mut SliceTablesMut<'_>,
 ) -> Result<u32, Refusal>
     requires { (ctx.num_tile_rows ≡ length row_heights.now)
         × (ctx.num_tile_rows * ctx.num_tile_columns ≤ 4294967295) }
@@ -39,11 +38,11 @@ fn read_loop(
         → Gives (held_as length (rect_slices g ctx.delta_present ctx.num_slices_minus1.0 first_position).read)
         r.old r.new result }
     ensures tables { (g : Grid) → LoopOver ctx row_heights.now g
-        → slices_after entries split_heights
-        ≡ slices_left (slices_before entries split_heights) 0 0
+        → slices_now tables.new ≡ slices_left (slices_now tables.old) 0 0
         (value_read (rect_slices g ctx.delta_present ctx.num_slices_minus1.0 first_position).read r.old)
         (refused_heights g ctx.delta_present ctx.num_slices_minus1.0 first_position
         r.old.bytes.now (cursor_of r.old)) }
+    ensures same_tables { SameSlices tables.old tables.new }
 {
     let n = ctx.num_slices_minus1;
     let mut at = LoopPosition {
@@ -54,8 +53,8 @@ fn read_loop(
     let mut count: u32 = 0;
     let mut from: usize = 0;
     while at.slice.0 < n.0 {
-        let entry = read_rect_slice(r, row_heights, ctx, at, split_heights, from)?;
-        put_slice(entry, count, entries);
+        let entry = read_rect_slice(r, row_heights, ctx, at, tables.split_heights, from)?;
+        put_slice(entry, count, tables.entries);
         from += entry.split_count.unwrap_or(0) as usize;
         at = entry.next;
         count += 1;
@@ -71,16 +70,15 @@ pub fn read_rect_slices(
     row_heights: &[u32],
     deltas_coded: bool,
     n: SliceIdx,
-    entries: &mut [[u32; ENTRY_LEN]],
-    split_heights: &mut [u32],
+    tables: &mut SliceTablesMut<'_>,
 ) -> Result<u32, Refusal>
     ensures gives { (g : Grid) → GridHas num_tile_columns (take max_tiles row_heights.now) g
         → Gives (held_as length (rect_slices g deltas_coded n.0 first_position).read) r.old r.new result }
     ensures tables { (g : Grid) → GridHas num_tile_columns (take max_tiles row_heights.now) g
-        → slices_after entries split_heights
-        ≡ slices_left (slices_before entries split_heights) 0 0
+        → slices_now tables.new ≡ slices_left (slices_now tables.old) 0 0
         (value_read (rect_slices g deltas_coded n.0 first_position).read r.old)
         (refused_heights g deltas_coded n.0 first_position r.old.bytes.now (cursor_of r.old)) }
+    ensures same_tables { SameSlices tables.old tables.new }
 {
     let rows = row_heights.len().min(MAX_TILES as usize);
     let ctx = SliceLoopCtx {
@@ -89,5 +87,5 @@ pub fn read_rect_slices(
         delta_present: deltas_coded,
         num_slices_minus1: n,
     };
-    read_loop(r, &row_heights[..rows], ctx, entries, split_heights)
+    read_loop(r, &row_heights[..rows], ctx, tables)
 }

@@ -9,8 +9,10 @@ use pps_record::lengths;
 use tables::places::put;
 
 mod lent;
+mod lent_mut;
 
 pub use lent::{LentTables, SliceTables};
+pub use lent_mut::{LentTablesMut, SliceTablesMut};
 
 // The test of 5, by the lengths of the lent tables in the order in which they are lent: a table may be longer than
 // stated.

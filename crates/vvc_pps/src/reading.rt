@@ -9,7 +9,7 @@ ghost use Rattle.vvc_pps.specs.PpsAnswer.{pps_read, held_read, read_held};
 use crate::no_pps::no_pps;
 use pps_answer::AcceptedPps;
 use pps_record::{VvcPps, VvcQpOffsets};
-use pps_tables::ENTRY_LEN;
+use pps_tables::{ENTRY_LEN, LentTablesMut};
 use refusal::Refusal;
 
 #[repr(C)]
@@ -50,6 +50,7 @@ impl From<Result<AcceptedPps, Refusal>> for VvcPpsRead {
     }
 }
 
+#[tactic(auto, using(crate::specs::PpsAnswer::read_held_lem))]
 #[unsafe(no_mangle)]
 pub extern "C" fn vvc_parse_pps(
     nal: &[u8],
@@ -64,13 +65,12 @@ pub extern "C" fn vvc_parse_pps(
         let left = after subpic_ids tile_column_widths tile_row_heights entries split_heights in
         held_read result work.new left ≡ read_held (parse_pps nal.now work.old given) }
 {
-    VvcPpsRead::from(pps_read::parse_pps(
-        nal,
-        work,
+    let mut tables = LentTablesMut {
         subpic_ids,
         tile_column_widths,
         tile_row_heights,
         entries,
         split_heights,
-    ))
+    };
+    VvcPpsRead::from(pps_read::parse_pps(nal, work, &mut tables))
 }

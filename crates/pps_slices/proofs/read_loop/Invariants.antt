@@ -2,13 +2,13 @@
 use Rattle.std.proofs.Common.{◌-◌}
 use Rattle.partition.specs.Grid.{Grid}
 use Rattle.slice_loop.specs.Loop.{LoopOver}
-use Rattle.pps_syntax.specs.SliceTables.{slice_tables}
+use Rattle.pps_tables.specs.LentMut.{slices_now, SameSlices}
 use Rattle.pps_slices.proofs.Held.{Held}
 use Rattle.pps_slices.proofs.read_loop.Given as goal
 
 abbrev pub invariant-loop-at : goal.invariant-loop-at
-invariant-loop-at l = (g : Grid) → LoopOver l.ctx l.row_heights g
-    → Held g l.ctx.delta_present l.ctx.num_slices_minus1.0 l.fn.r (slice_tables l.initial.entries l.initial.split_heights) (slice_tables l.entries l.split_heights) l.r l.at l.count l.from
+invariant-loop-at l = SameSlices l.initial.tables l.tables × ((g : Grid) → LoopOver l.ctx l.row_heights g
+    → Held g l.ctx.delta_present l.ctx.num_slices_minus1.0 l.fn.r (slices_now l.initial.tables) (slices_now l.tables) l.r l.at l.count l.from)
 
 abbrev pub decreases-loop-at : goal.decreases-loop-at
 decreases-loop-at l = l.n.0 - l.count

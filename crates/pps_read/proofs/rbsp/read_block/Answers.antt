@@ -1,19 +1,20 @@
 use Rattle.pps_record.specs.Absent.{no_partition}
 use Rattle.pps_syntax.specs.Record.{partition_record}
-use Rattle.pps_syntax.specs.SliceTables.{slice_tables}
-use Rattle.pps_read.proofs.Block.{block-read, no-block}
+use Rattle.pps_tables.specs.LentMut.{lent_now}
+use Rattle.pps_read.proofs.Block.{block-answer, block-tables, none-answer, none-tables}
 use Rattle.pps_read.proofs.rbsp.read_block.Goals as goal
 
-pub returns-then-not-partitioned : goal.returns-then-not-partitioned
+pub returns-then-not-partitioned-clause-answer : goal.returns-then-not-partitioned-clause-answer
 unfolding partition_record no_partition
-returns-then-not-partitioned c = let a = c.args in
-    let n = no-block a.partitioned a.width a.height a.tile_column_widths.now a.tile_row_heights.now (slice_tables a.entries.now a.split_heights.now) c.if-not-partitioned.true in
-    record { answer = rw c.absent.ensures n.0; tables = n.1 }
+returns-then-not-partitioned-clause-answer c = let a = c.args in rw c.absent.ensures (none-answer a.partitioned a.width a.height c.if-not-partitioned.true)
 
-pub returns : goal.returns
-returns c = let a = c.args in
+pub returns-then-not-partitioned-clause-tables : goal.returns-then-not-partitioned-clause-tables
+returns-then-not-partitioned-clause-tables c = let a = c.args in none-tables a.partitioned a.width a.height a.r.now (lent_now a.tables.now) c.if-not-partitioned.true
+
+pub returns-clause-answer : goal.returns-clause-answer
+returns-clause-answer c = let a = c.args in block-answer a.width a.height a.partitioned c.if-not-partitioned.false c.read_partition.ensures.answer
+
+pub returns-clause-tables : goal.returns-clause-tables
+returns-clause-tables c = let a = c.args in
     let r = c.read_partition.ensures in
-    let t = c.read_partition.new in
-    let b = block-read a.width a.height a.tile_column_widths.now a.tile_row_heights.now (slice_tables a.entries.now a.split_heights.now)
-    t.tile_column_widths t.tile_row_heights (slice_tables t.entries t.split_heights) a.partitioned c.if-not-partitioned.false r.answer r.columns r.rows r.slices in
-    record { answer = b.0; tables = b.1 }
+    block-tables a.width a.height a.partitioned _ _ c.if-not-partitioned.false r.answer r.columns r.rows r.slices
