@@ -9,6 +9,7 @@ use mathlib.Core.Path.{◌≡◌, refl, sym, ap, ◌∙◌}
 use lib.ListN.{length, set, length-set}
 use lib.Seq.{sets}
 use Rattle.tables.specs.Tables.{over, sets_over}
+use Rattle.nal.specs.Lengths.{escape-length}
 
 pub record Counting (whole rest : List ℕ) (n : ℕ) : Type 0 where
   pub count : n + length rest ≡ length whole
@@ -25,6 +26,9 @@ module _ {whole rest : List ℕ} {n : ℕ} (p : Counting whole rest n) where
 
   pub count-done : rest ≡ [] → n ≡ length whole
   count-done e = omega (arith, ap length e, p.count)
+
+-- for `using`: escaping makes three bytes of two at the most
+pub ruleset lengths = (escape-length)
 
 pub record Putting (whole rest out₀ out : List ℕ) (n : ℕ) : Type 0 where
   pub counted : Counting whole rest n

@@ -84,6 +84,7 @@ pub fn needs_escape(z: u8, b: u8) -> bool
 }
 
 // Whether the escaped bytes fit. Two bytes become three at the most, so with that much room there is nothing to count.
+#[tactic(auto, using(crate::proofs::Putting::lengths))]
 fn fits_in(rbsp: &[u8], room: usize) -> bool
     requires { length rbsp.now ≤ 65535 }
     ensures { result ≡ leb (length (escape rbsp.now)) room }
@@ -95,6 +96,7 @@ fn fits_in(rbsp: &[u8], room: usize) -> bool
     escaped_len(rbsp) <= room
 }
 
+#[tactic(auto, using(crate::proofs::Putting::lengths))]
 fn escaped_len(rbsp: &[u8]) -> usize
     requires { length rbsp.now ≤ 65535 }
     ensures { result ≡ length (escape rbsp.now) }

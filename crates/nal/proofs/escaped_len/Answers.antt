@@ -2,7 +2,6 @@
 use native.Mathlib.Omega.{arith}
 use mathlib.Core.Path.{refl, sym, ◌∙◌}
 use Rattle.nal.specs.Escape.{escape}
-use Rattle.nal.specs.Lengths.{escape-length}
 use Rattle.nal.proofs.Putting.{count_start, count-byte, count-two, count-done}
 use Rattle.nal.proofs.Steps.{escape_plain, escape-escaped, escape-over, escape-end-none, escape-end_three}
 use Rattle.nal.proofs.escaped_len.Goals as goal
@@ -11,26 +10,14 @@ pub loop-b-init : goal.loop-b-init
 unfolding escape
 loop-b-init c = count_start _
 
-pub overflow_add-n : goal.overflow_add-n
-overflow_add-n c = omega (arith, c.loop-b.invariant.count, escape-length c.args.rbsp.now)
-
 pub loop-b-preserved-then-b-gt3 : goal.loop-b-preserved-then-b-gt3
 loop-b-preserved-then-b-gt3 c = count-byte c.loop-b.invariant (escape-over c.args.rbsp.now c.loop-b.z c.loop-b.b-index (omega arith) c.if-b-gt3.true)
-
-pub overflow_add-n-then-needs_escape : goal.overflow_add-n-then-needs_escape
-overflow_add-n-then-needs_escape c = omega (arith, c.loop-b.invariant.count, escape-length c.args.rbsp.now)
 
 pub loop-b-preserved-then-needs_escape : goal.loop-b-preserved-then-needs_escape
 loop-b-preserved-then-needs_escape c = rw c.zero_run-z.ensures (count-two c.loop-b.invariant (escape-escaped c.args.rbsp.now c.loop-b.z c.loop-b.b-index (omega arith) (sym c.needs_escape.ensures ∙ c.if-needs_escape.true)))
 
-pub overflow_add-n-in-loop-b : goal.overflow_add-n-in-loop-b
-overflow_add-n-in-loop-b c = omega (arith, c.loop-b.invariant.count, escape-length c.args.rbsp.now)
-
 pub loop-b-preserved : goal.loop-b-preserved
 loop-b-preserved c = rw c.zero_run-z-in-loop-b.ensures (count-byte c.loop-b.invariant (escape_plain c.args.rbsp.now c.loop-b.z c.loop-b.b-index (omega arith) (sym c.needs_escape.ensures ∙ c.if-needs_escape.false)))
-
-pub overflow_add-result : goal.overflow_add-result
-overflow_add-result c = omega (arith, c.loop-b.invariant.count, escape-length c.args.rbsp.now)
 
 pub returns-then-z-ge2 : goal.returns-then-z-ge2
 returns-then-z-ge2 c = count-done (count-byte c.loop-b.invariant (escape-end_three c.args.rbsp.now c.loop-b.z c.loop-b.b-index (omega arith) c.if-z-ge2.true)) refl
