@@ -1,5 +1,5 @@
 -- The sizes of an axis, counted while the explicit ones are read (H.266 6.5.1, equations 14, 15 and 21).
-use Rattle.std.specs.Prelude.{ℕ, suc, ◌+◌, ◌-◌, ◌*◌, ◌≤◌, ◌<◌, ◌≡◌, true, false, leb, set, Ok, Err}
+use Rattle.std.specs.Prelude.{ℕ, suc, ◌+◌, ◌-◌, ◌*◌, ◌≤◌, ◌<◌, ◌≡◌, Bool, true, false, cond, leb, set, Ok, Err, Some, None}
 use Rattle.std.proofs.Math.Path.{refl}
 use Rattle.std.proofs.Common.{ap₂}
 use Rattle.std.proofs.Common.{sym, ◌∙◌, sub-eq-zero_of_le, add-one, arith}
@@ -7,26 +7,25 @@ use mathlib.Core.List.{List, [], ◌∷◌}
 use Rattle.std.proofs.Math.Nat.{sub-zero}
 use Rattle.std.proofs.Math.ListN.{length}
 use Rattle.std.proofs.lemmas.List.Edits.{sets}
-use borrow.Author.Tests.{le-leb, lt-leb}
+use borrow.Author.Tests.{leb-true, le-leb, lt-leb}
 use Rattle.refusal.specs.declared.Refusal.{Refusal}
 use Rattle.bit_reader.specs.declared.BitReader.{BitReader}
 use Rattle.bit_reader.specs.Gives.{parsed, cursor_of, Gives, value_read, held_as}
 use Rattle.bit_reader.proofs.Gives.{given, given_back, refuses, over}
 use Rattle.bit_reader.specs.Laws.{ue-small}
-use Rattle.partition.specs.Sizes.{sum, explicit_sizes, uniform_size, uniform_sizes, axis_sizes}
-use Rattle.tile_sizes.specs.Left.{axis-length, none-length}
+use Rattle.partition.specs.Sizes.{sum, explicit_sizes, uniform_size, uniform_sizes, axis_sizes, Fit}
+use Rattle.tile_sizes.specs.Left.{axis-length}
 use Rattle.pps_fields.specs.declared.lists.AxisRead.{AxisRead}
 use Rattle.pps_fields.specs.ListReads.{list_read, list-none, list-more, one_left, Filling, fill_begins, fill_more, fill_stops, fill_ends, filled_numbers}
 use Rattle.pps_fields.specs.Sizes.{size_read, sizes_read}
 
--- what explicit sizes (minus 1) say of an axis of `total` CTBs, also where they pass it or a refusal cut them off
+-- what explicit sizes (minus 1) say of an axis of `total` CTBs, also where a refusal cut them off
 unfoldable pub axis_of : List ℕ → ℕ → AxisRead
 axis_of es total =
     record {
       count = length es;
       uniform = uniform_size es;
-      sizes = length (axis_sizes es total);
-      fits = leb (sum (explicit_sizes es)) total;
+      sizes = cond (leb (sum (explicit_sizes es)) total) (Some (length (axis_sizes es total))) None;
     }
 
 -- how many there are, the last of them, and how many CTBs they take
@@ -36,19 +35,34 @@ pub record Counted (es : List ℕ) (count uniform taken : ℕ) : Type 0 where
   pub taken_is : sum (explicit_sizes es) ≡ taken
 
 module _ (es : List ℕ) (count uniform taken total : ℕ) (k : Counted es count uniform taken) where
-  pub axis-over : total < taken → record { count = count; uniform = uniform; sizes = count; fits = false } ≡ axis_of es total
+  pub axis-over : total < taken → record { count = count; uniform = uniform; sizes = None } ≡ axis_of es total
   unfolding axis_of
-  axis-over h =
-      let none : total - sum (explicit_sizes es) ≡ 0 = omega (arith, k.taken_is) in
-      let all : length (axis_sizes es total) ≡ count = omega (arith, axis-length es total, none-length (uniform_size es) _ none, k.count_is) in
-      rw (all, k.count_is, k.uniform_is, k.taken_is, lt-leb taken total h)
+  axis-over h = rw (k.count_is, k.uniform_is, k.taken_is, lt-leb taken total h)
 
   pub axis-within : (remaining rest : ℕ) → taken ≤ total → remaining ≡ total - taken → rest ≡ length (uniform_sizes uniform remaining)
-      → record { count = count; uniform = uniform; sizes = count + rest; fits = true } ≡ axis_of es total
+      → record { count = count; uniform = uniform; sizes = Some (count + rest) } ≡ axis_of es total
   unfolding axis_of
   axis-within remaining rest h e f =
       let all : length (axis_sizes es total) ≡ count + rest = axis-length es total ∙ rw (k.count_is, k.uniform_is, k.taken_is, f, e) in
       rw (all, k.count_is, k.uniform_is, k.taken_is, le-leb taken total h)
+
+-- where the sizes are counted, the explicit ones fit
+pub counted-fit : (es : List ℕ) (total : ℕ) {n : ℕ} → (axis_of es total).sizes ≡ Some n → Fit es total × (n ≡ length (axis_sizes es total))
+unfolding axis_of
+counted-fit es total {n} e = split (leb (sum (explicit_sizes es)) total) refl e
+  where
+    split : (b : Bool) → leb (sum (explicit_sizes es)) total ≡ b → cond b (Some (length (axis_sizes es total))) None ≡ Some n → Fit es total × (n ≡ length (axis_sizes es total))
+    split true f g = (leb-true _ _ f, sym cc)
+    split false f g = absurd cc
+
+-- where they are not, the explicit ones pass the axis
+pub uncounted-over : (es : List ℕ) (total : ℕ) → (axis_of es total).sizes ≡ None → leb (sum (explicit_sizes es)) total ≡ false
+unfolding axis_of
+uncounted-over es total e = split (leb (sum (explicit_sizes es)) total) e
+  where
+    split : (b : Bool) → cond b (Some (length (axis_sizes es total))) None ≡ None → b ≡ false
+    split true g = absurd cc
+    split false g = refl
 
 -- ---- the pass
 -- the size that repeats behind these, after one of size u

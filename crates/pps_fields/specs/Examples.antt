@@ -1,5 +1,5 @@
 -- Lists of sizes, and what they say of their axis, computed: a table and a theorem for each.
-use Rattle.std.specs.Prelude.{ℕ, ◌≡◌, refl, List, [], ◌∷◌, map, Bool, true, false}
+use Rattle.std.specs.Prelude.{ℕ, ◌≡◌, refl, List, [], ◌∷◌, map, Option, Some, None}
 use Rattle.codes.specs.Bytes.{bit_at, bits_at}
 use Rattle.bit_reader.specs.declared.Cursor.{Cursor}
 use Rattle.bit_reader.specs.Reading.{cursor_at, unless_refused, onward, stops, zeros_at, ue_after, ue_within, ue_read, demanded}
@@ -39,8 +39,8 @@ unfolding table bit_at bits_at unless_refused onward stops zeros_at ue_after ue_
 all = refl
 
 -- ---- an axis
-abbrev axis : ℕ → ℕ → ℕ → Bool → AxisRead
-axis count uniform sizes fits = record { count = count; uniform = uniform; sizes = sizes; fits = fits }
+abbrev axis : ℕ → ℕ → Option ℕ → AxisRead
+axis count uniform sizes = record { count = count; uniform = uniform; sizes = sizes }
 
 record AxisExample : Type 0 where
   minus1 : List ℕ
@@ -53,11 +53,11 @@ of minus1 total w = record { minus1 = minus1; total = total; wanted = w }
 -- 0, 1, 2 are sizes of 1, 2 and 3: on an axis of 10 CTBs, another 3 and a tail of 1; on one of 5 they do not fit
 axes : List AxisExample
 axes =
-    of (0 ∷ 1 ∷ 2 ∷ []) 10 (axis 3 3 5 true)
-    ∷ of (0 ∷ 1 ∷ 2 ∷ []) 6 (axis 3 3 3 true)
-    ∷ of (0 ∷ 1 ∷ 2 ∷ []) 5 (axis 3 3 3 false)
-    ∷ of (3 ∷ []) 9 (axis 1 4 3 true)
-    ∷ of [] 4 (axis 0 1 4 true)
+    of (0 ∷ 1 ∷ 2 ∷ []) 10 (axis 3 3 (Some 5))
+    ∷ of (0 ∷ 1 ∷ 2 ∷ []) 6 (axis 3 3 (Some 3))
+    ∷ of (0 ∷ 1 ∷ 2 ∷ []) 5 (axis 3 3 None)
+    ∷ of (3 ∷ []) 9 (axis 1 4 (Some 3))
+    ∷ of [] 4 (axis 0 1 (Some 4))
     ∷ []
 
 all-axes : map (λ (e : AxisExample). axis_of e.minus1 e.total) axes ≡ map (λ (e : AxisExample). e.wanted) axes

@@ -25,14 +25,13 @@ fn store(table: &mut [u32], from: usize, i: u32, v: u32)
     }
 }
 
-// The explicit sizes of an axis of tiles or slices: how many there are, the size that repeats behind them, how many
-// sizes there are in all, and whether the explicit ones fit the axis.
+// The explicit sizes of an axis of tiles or slices: how many there are, the size that repeats behind them, and how many
+// sizes there are in all; None where the explicit ones pass the axis.
 #[derive(Clone, Copy)]
 pub struct AxisRead {
     pub count: u32,
     pub uniform: u32,
-    pub sizes: u32,
-    pub fits: bool,
+    pub sizes: Option<u32>,
 }
 
 // The sizes of an axis, of which the explicit ones take so many CTBs.
@@ -45,16 +44,14 @@ fn axis_read(count: u32, uniform: u32, taken: u64, total: CtbCount) -> AxisRead
         return AxisRead {
             count,
             uniform,
-            sizes: count,
-            fits: false,
+            sizes: None,
         };
     }
     let rest = uniform_sizes(uniform, (length - taken) as u32);
     AxisRead {
         count,
         uniform,
-        sizes: count + rest,
-        fits: true,
+        sizes: Some(count + rest),
     }
 }
 

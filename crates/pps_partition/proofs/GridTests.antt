@@ -20,10 +20,10 @@ module _ (W H : ℕ) (t : TileSizes) (c : Cursor) where
   -- the tests over what was counted on the axes; behind a refusal none is made
   pub axes-tested : (columns rows : AxisRead) → columns ≡ axis_of t.pps_tile_column_width_minus1 (in_ctbs W t.pps_log2_ctu_size_minus5)
       → rows ≡ axis_of t.pps_tile_row_height_minus1 (in_ctbs H t.pps_log2_ctu_size_minus5)
-      → grid_tested W H t c ≡ record { at = c.at; refused = cond (eqb c.refused 0) (refused (axes_tested columns rows)) c.refused }
+      → grid_tested W H t c ≡ record { at = c.at; refused = cond (eqb c.refused 0) (refused (axes_tested columns.sizes rows.sizes)) c.refused }
   axes-tested columns rows e f = split (eqb c.refused 0) refl
     where
-      split : (b : Bool) → eqb c.refused 0 ≡ b → grid_tested W H t c ≡ record { at = c.at; refused = cond b (refused (axes_tested columns rows)) c.refused }
+      split : (b : Bool) → eqb c.refused 0 ≡ b → grid_tested W H t c ≡ record { at = c.at; refused = cond b (refused (axes_tested columns.sizes rows.sizes)) c.refused }
       split true z = ap (grid_tested W H t) (cursor_is c (eqb-true c.refused 0 z)) ∙ tested-as W H t c.at ∙ rw (e, f)
       split false z = tested-stuck W H t c (eqb-false c.refused 0 z)
 

@@ -1,6 +1,6 @@
 -- The parts of the block, one behind the other, are the block as its description has it.
-use Rattle.std.specs.Prelude.{ℕ, ◌≤◌, ◌/◌, ◌≡◌, List, ◌++◌, Bool, true, false, cond, ◌&&◌, leb, Result, Ok, Err, length, take, drop, refl}
-use Rattle.std.proofs.Common.{Bor, sym, ap, ◌∙◌, arith, leb-true}
+use Rattle.std.specs.Prelude.{ℕ, ◌≤◌, ◌/◌, ◌≡◌, List, ◌++◌, Bool, true, false, cond, ◌&&◌, leb, Option, Some, None, Result, Ok, Err, length, take, drop, refl}
+use Rattle.std.proofs.Common.{Bor, sym, ap, ◌∙◌, arith}
 use Rattle.std.proofs.Math.Seq.{take_at, length-sets, length-take-le}
 use Rattle.std.proofs.lemmas.List.Edits.{sets}
 use Rattle.tables.specs.Tables.{over as laid_over, sets_over, over-length}
@@ -23,12 +23,13 @@ use Rattle.pps_syntax.specs.SliceTables.{SliceTables}
 use Rattle.syntax.specs.Syntax.{parse, ◌>>=◌}
 use Rattle.syntax.proofs.Round.{parse-stuck}
 use Rattle.tile_sizes.specs.Limits.{within_limits, Limited, limits_held}
-use Rattle.pps_fields.specs.Axis.{axis_of}
+use Rattle.pps_fields.specs.Axis.{axis_of, counted-fit}
 use Rattle.pps_slices.specs.Grids.{GridHas}
 use Rattle.pps_slices.specs.Loop.{slices_left}
 use Rattle.pps_slices.proofs.Chain.{was_read, was_refused}
 use Rattle.pps_slices.proofs.Stuck.{Stuck, stays-stuck}
 use Rattle.pps_partition.specs.declared.slicing.SlicingRead.{SlicingRead}
+use Rattle.pps_partition.specs.declared.tiles.NumTiles.{NumTiles}
 use Rattle.pps_partition.specs.declared.tiles.TileSizesRead.{TileSizesRead}
 use Rattle.pps_partition.specs.GridTests.{axes_tested, grid_tested}
 use Rattle.pps_partition.specs.PartitionAnswer.{one_block, partition_left}
@@ -39,8 +40,15 @@ use Rattle.pps_partition.proofs.Sizes.{rows_few}
 use Rattle.pps_partition.proofs.Slices.{sliced-none}
 
 -- ---- four tests, one behind the other
-abbrev tested : Bool → Bool → Bool → Bool → Result (Unit {0}) Refusal
-tested a b c d = cond a (cond b (cond c (cond d (Ok tt) (Err GridTooLarge)) (Err TileSizesSum)) (Err GridTooLarge)) (Err TileSizesSum)
+tested : Bool → Bool → Bool → Bool → NumTiles → Result NumTiles Refusal
+tested a b c d n = cond a (cond b (cond c (cond d (Ok n) (Err GridTooLarge)) (Err TileSizesSum)) (Err GridTooLarge)) (Err TileSizesSum)
+
+counted_tested : (a c : Bool) (w h : ℕ)
+    → tested a (leb w max_tile_columns) c (leb h (max_tiles / w)) (record { columns = w; rows = h }) ≡ axes_tested (cond a (Some w) None) (cond c (Some h) None)
+unfolding tested axes_tested
+counted_tested false c w h = refl
+counted_tested true false w h = refl
+counted_tested true true w h = refl
 
 -- behind a refusal no other comes
 demanded-last : (c d : Bool) (at n : ℕ) → (n ≡ 0 → ⊥) → demanded d 13 (demanded c 12 (record { at = at; refused = n })) ≡ record { at = at; refused = n }
@@ -49,20 +57,39 @@ demanded-last c d at n h = ap (demanded d 13) (demanded-refused c 12 _ h) ∙ de
 later : (b c d : Bool) (at n : ℕ) → (n ≡ 0 → ⊥) → demanded d 13 (demanded c 12 (demanded b 13 (record { at = at; refused = n }))) ≡ record { at = at; refused = n }
 later b c d at n h = ap (λ (x : Cursor). demanded d 13 (demanded c 12 x)) (demanded-refused b 13 _ h) ∙ demanded-last c d at n h
 
-tests_are : (a b c d : Bool) (at : ℕ) → demanded d 13 (demanded c 12 (demanded b 13 (demanded a 12 (cursor_at at)))) ≡ record { at = at; refused = refused (tested a b c d) }
-unfolding demanded refused number
-tests_are false b c d at = later b c d at 12 (λ z. omega arith)
-tests_are true false c d at = demanded-last c d at 13 (λ z. omega arith)
-tests_are true true false d at = demanded-refused d 13 _ (λ z. omega arith)
-tests_are true true true false at = refl
-tests_are true true true true at = refl
+tests_are : (a b c d : Bool) (n : NumTiles) (at : ℕ)
+    → demanded d 13 (demanded c 12 (demanded b 13 (demanded a 12 (cursor_at at)))) ≡ record { at = at; refused = refused (tested a b c d n) }
+unfolding demanded refused number tested
+tests_are false b c d n at = later b c d at 12 (λ z. omega arith)
+tests_are true false c d n at = demanded-last c d at 13 (λ z. omega arith)
+tests_are true true false d n at = demanded-refused d 13 _ (λ z. omega arith)
+tests_are true true true false n at = refl
+tests_are true true true true n at = refl
 
-all_held : (a b c d : Bool) → Ok tt ≡ tested a b c d → (b ≡ true) × (c ≡ true) × (d ≡ true)
-all_held false b c d e = absurd cc
-all_held true false c d e = absurd cc
-all_held true true false d e = absurd cc
-all_held true true true false e = absurd cc
-all_held true true true true e = (refl, refl, refl)
+-- what they have shown
+record Held (n : NumTiles) (x y : Option ℕ) : Type 0 where
+  columns_are : x ≡ Some n.columns
+  rows_are : y ≡ Some n.rows
+  few : leb n.columns max_tile_columns ≡ true
+  low : leb n.rows (max_tiles / n.columns) ≡ true
+
+all_held : (x y : Option ℕ) {n : NumTiles} → Ok n ≡ axes_tested x y → Held n x y
+unfolding axes_tested
+all_held None y e = absurd cc
+all_held (Some w) None {n} e = split (leb w max_tile_columns) e
+  where
+    split : (b : Bool) → Ok n ≡ cond b (Err TileSizesSum) (Err GridTooLarge) → Held n (Some w) None
+    split true f = absurd cc
+    split false f = absurd cc
+all_held (Some w) (Some h) {n} e = split (leb w max_tile_columns) (leb h (max_tiles / w)) refl refl e
+  where
+    split : (b d : Bool) → leb w max_tile_columns ≡ b → leb h (max_tiles / w) ≡ d
+        → Ok n ≡ cond b (cond d (Ok (record { columns = w; rows = h })) (Err GridTooLarge)) (Err GridTooLarge) → Held n (Some w) (Some h)
+    split false d p q f = absurd cc
+    split true false p q f = absurd cc
+    split true true p q f =
+        let is : n ≡ record { columns = w; rows = h } = cc in
+        rw is (record { columns_are = refl; rows_are = refl; few = p; low = q })
 
 -- ---- the block
 abbrev pub block_of : TileSizes → Slicing → PartitionBlock
@@ -101,9 +128,9 @@ module _ (W H : ℕ) where
   tested-stuck t c h = ap (demanded _ 13) (ap (demanded _ 12) (ap (demanded _ 13) (demanded-refused _ 12 c h) ∙ demanded-refused _ 13 c h) ∙ demanded-refused _ 12 c h) ∙ demanded-refused _ 13 c h
 
   -- the tests over what was counted on the axes
-  pub tested-as : (t : TileSizes) (at : ℕ) → grid_tested W H t (cursor_at at) ≡ record { at = at; refused = refused (axes_tested (sizes_kept W H t).columns (sizes_kept W H t).rows) }
-  unfolding grid_tested axes_tested axis_of
-  tested-as t at = tests_are _ _ _ _ at
+  pub tested-as : (t : TileSizes) (at : ℕ) → grid_tested W H t (cursor_at at) ≡ record { at = at; refused = refused (axes_tested (sizes_kept W H t).columns.sizes (sizes_kept W H t).rows.sizes) }
+  unfolding grid_tested axis_of
+  tested-as t at = tests_are _ _ _ _ _ at ∙ ap (λ (y : Result NumTiles Refusal). record { at = at; refused = refused y }) (counted_tested _ _ _ _)
 
   -- ---- the tables, refused or not
   module _ (p : BitReader) where
@@ -179,13 +206,13 @@ module _ (W H : ℕ) where
           splits p.bytes.now (cursor_of p)
           ∙ ap (λ (y : Parsed TileSizes). behind_sizes y.value p.bytes.now y.next) (sym (given_back (was_read (sizes_kept W H) (parse (tile_sizes W H)) S)))
 
-      tests : {x : Result (Unit {0}) Refusal} → x ≡ axes_tested z.columns z.rows → grid_tested W H (sizes_at p) (cursor_of q) ≡ record { at = q.bit_pos; refused = refused x }
+      tests : {x : Result NumTiles Refusal} → x ≡ axes_tested z.columns.sizes z.rows.sizes → grid_tested W H (sizes_at p) (cursor_of q) ≡ record { at = q.bit_pos; refused = refused x }
       tests {x} e =
           tested-as (sizes_at p) q.bit_pos
-          ∙ ap (λ (y : TileSizesRead). record { at = q.bit_pos; refused = refused (axes_tested y.columns y.rows) }) S.value
-          ∙ ap (λ (y : Result (Unit {0}) Refusal). record { at = q.bit_pos; refused = refused y }) (sym e)
+          ∙ ap (λ (y : TileSizesRead). record { at = q.bit_pos; refused = refused (axes_tested y.columns.sizes y.rows.sizes) }) S.value
+          ∙ ap (λ (y : Result NumTiles Refusal). record { at = q.bit_pos; refused = refused y }) (sym e)
 
-      pub no_grid : {e : Refusal} → Err e ≡ axes_tested z.columns z.rows → Block p q (Err e)
+      pub no_grid : {e : Refusal} → Err e ≡ axes_tested z.columns.sizes z.rows.sizes → Block p q (Err e)
       unfolding refused
       no_grid {e} x =
           let is : refusal (cursor_of q) (number e) ≡ grid_tested W H (sizes_at p) (cursor_of q) = sym (tests x) in
@@ -196,11 +223,11 @@ module _ (W H : ℕ) where
       read_to : behind_tests p ≡ grid_tested W H (sizes_at p) (cursor_of q)
       read_to = ap (λ (y : Parsed TileSizes). grid_tested W H y.value y.next) (sym (given_back (was_read (sizes_kept W H) (parse (tile_sizes W H)) S)))
 
-      pub no_grid_put : {e : Refusal} → Err e ≡ axes_tested z.columns z.rows → (t : SliceTables) → SlicesPut p t t
+      pub no_grid_put : {e : Refusal} → Err e ≡ axes_tested z.columns.sizes z.rows.sizes → (t : SliceTables) → SlicesPut p t t
       unfolding refused
       no_grid_put {e} x = slices_none p (not-0 e q.bit_pos (sym (read_to ∙ tests x)))
 
-      module _ (fine : Ok tt ≡ axes_tested z.columns z.rows) where
+      module _ {n : NumTiles} (fine : Ok n ≡ axes_tested z.columns.sizes z.rows.sizes) where
         -- as the slicing leaves them, refused or not
         pub slices_put : (t u : SliceTables) → u ≡ slices_left t 0 0 (value_read (parse (slicing (grid_at p))) q).rect_slices (slicing_left (grid_at p) q.bytes.now (cursor_of q)) → SlicesPut p t u
         unfolding refused
@@ -245,23 +272,22 @@ module _ (W H : ℕ) where
           block_made = holds one_block block (rw (← S.value, ← L.value) refl)
 
         -- ---- the grid
-        held : (leb z.columns.sizes max_tile_columns ≡ true) × (z.rows.fits ≡ true) × (leb z.rows.sizes (max_tiles / z.columns.sizes) ≡ true)
-        unfolding axes_tested
-        held = all_held z.columns.fits _ _ _ fine
+        held : Held n z.columns.sizes z.rows.sizes
+        held = all_held _ _ fine
 
-        limited : Limited z.columns.sizes z.rows.sizes
+        limited : Limited n.columns n.rows
         unfolding within_limits
-        limited = limits_held z.columns.sizes z.rows.sizes (both held.0 held.2)
+        limited = limits_held n.columns n.rows (both held.few held.low)
           where
             both : {a b : Bool} → a ≡ true → b ≡ true → (a && b) ≡ true
             both e f = rw (e, f)
 
-        pub grid-small : (z.columns.sizes ≤ max_tile_columns) × (z.rows.sizes ≤ max_tiles)
+        pub grid-small : (n.columns ≤ max_tile_columns) × (n.rows ≤ max_tiles)
         grid-small = (limited.few, limited.low)
 
-        sizes_are : (z.columns.sizes ≡ columns (grid_at p)) × (z.rows.sizes ≡ rows (grid_at p))
-        unfolding axis_of tile_grid
-        sizes_are = (sym (ap (λ (y : TileSizesRead). y.columns.sizes) S.value), sym (ap (λ (y : TileSizesRead). y.rows.sizes) S.value))
+        columns_counted : n.columns ≡ columns (grid_at p)
+        unfolding tile_grid
+        columns_counted = (counted-fit _ _ (ap (λ (y : TileSizesRead). y.columns.sizes) S.value ∙ held.columns_are)).1
 
         -- the explicit rows are the front of a table v of the limit
         module _ (v₀ v : List ℕ) (long : length v₀ ≡ max_tiles) (put : v ≡ sets v₀ 0 (sizes_at p).pps_tile_row_height_minus1) where
@@ -282,40 +308,38 @@ module _ (W H : ℕ) where
           height_is : z.pic_height.0 ≡ (height_at p)
           height_is = sym (ap (λ (y : TileSizesRead). y.pic_height.0) S.value)
 
-          rows_fit : Fit (rows_at p) (height_at p)
-          unfolding axis_of
-          rows_fit = leb-true _ _ (ap (λ (y : TileSizesRead). y.rows.fits) S.value ∙ held.1)
+          rows_counted : Fit (rows_at p) (height_at p) × (n.rows ≡ length (axis_sizes (rows_at p) (height_at p)))
+          rows_counted = counted-fit _ _ (ap (λ (y : TileSizesRead). y.rows.sizes) S.value ∙ held.rows_are)
 
-          rows_sized : z.rows.sizes ≡ length (axis_sizes (rows_at p) (height_at p))
-          unfolding axis_of
-          rows_sized = sym (ap (λ (y : TileSizesRead). y.rows.sizes) S.value)
+          rows_sized : n.rows ≡ length (axis_sizes (rows_at p) (height_at p))
+          rows_sized = rows_counted.1
 
           -- what `spread` asks for
           pub spread_ready : (z.rows.count ≤ length v) × (z.rows.uniform ≡ uniform_size (take z.rows.count v)) × Fit (take z.rows.count v) z.pic_height.0
-              × (z.rows.sizes ≡ length (axis_sizes (take z.rows.count v) z.pic_height.0)) × (z.rows.sizes ≤ length v)
+              × (n.rows ≡ length (axis_sizes (take z.rows.count v) z.pic_height.0)) × (n.rows ≤ length v)
           unfolding axis_of
           spread_ready =
               rw (front, height_is)
-              (omega (arith, same-length, counted, few), sym (ap (λ (y : TileSizesRead). y.rows.uniform) S.value), rows_fit, rows_sized, omega (arith, same-length, limited.low))
+              (omega (arith, same-length, counted, few), sym (ap (λ (y : TileSizesRead). y.rows.uniform) S.value), rows_counted.0, rows_sized, omega (arith, same-length, limited.low))
 
           module _ {w : List ℕ} (spread : w ≡ laid_over (axis_sizes (take z.rows.count v) z.pic_height.0) v) where
             laid : w ≡ laid_over (axis_sizes (rows_at p) (height_at p)) v
             laid = rw (front, height_is) at spread
 
             -- it leaves room for the rows
-            pub spread_length : z.rows.sizes ≤ length w
+            pub spread_length : n.rows ≤ length w
             spread_length = omega (arith, ap length laid, over-length (axis_sizes (rows_at p) (height_at p)) v (omega (arith, same-length, rows_sized, limited.low)), same-length, limited.low)
 
-            pub spread_front : z.rows.sizes ≡ length (take z.rows.sizes w)
-            spread_front = sym (length-take-le z.rows.sizes w spread_length)
+            pub spread_front : n.rows ≡ length (take n.rows w)
+            spread_front = sym (length-take-le n.rows w spread_length)
 
-            pub front_few : length (take z.rows.sizes w) ≤ max_tiles
+            pub front_few : length (take n.rows w) ≤ max_tiles
             front_few = omega (arith, spread_front, limited.low)
 
-            pub grid_has : GridHas z.columns.sizes (take z.rows.sizes w) (grid_at p)
+            pub grid_has : GridHas n.columns (take n.rows w) (grid_at p)
             unfolding tile_grid laid_over
             grid_has =
                 record {
-                  columns_are = sym sizes_are.0;
-                  heights_are = sym (ap (take z.rows.sizes) laid ∙ take_at (axis_sizes (rows_at p) (height_at p)) (drop (length (axis_sizes (rows_at p) (height_at p))) v) z.rows.sizes (sym rows_sized));
+                  columns_are = sym columns_counted;
+                  heights_are = sym (ap (take n.rows) laid ∙ take_at (axis_sizes (rows_at p) (height_at p)) (drop (length (axis_sizes (rows_at p) (height_at p))) v) n.rows (sym rows_sized));
                 }

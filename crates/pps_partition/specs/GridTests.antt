@@ -1,5 +1,5 @@
 -- The tests of the grid, over what was counted on its axes.
-use Rattle.std.specs.Prelude.{ℕ, ◌/◌, List, cond, leb, Result, Ok, Err, length}
+use Rattle.std.specs.Prelude.{ℕ, ◌/◌, List, cond, leb, Option, Some, None, Result, Ok, Err, length}
 use Rattle.refusal.specs.declared.Refusal.{Refusal}
 use Rattle.refusal.specs.declared.Refusal.TheVariants.{TileSizesSum, GridTooLarge}
 use Rattle.bit_reader.specs.declared.Cursor.{Cursor}
@@ -7,19 +7,17 @@ use Rattle.bit_reader.specs.Reading.{demanded}
 use Rattle.partition.specs.Grid.{max_tile_columns, max_tiles}
 use Rattle.partition.specs.Partition.{in_ctbs}
 use Rattle.partition.specs.Sizes.{sum, explicit_sizes, axis_sizes}
-use Rattle.pps_fields.specs.declared.lists.AxisRead.{AxisRead}
+use Rattle.pps_partition.specs.declared.tiles.NumTiles.{NumTiles}
 use Rattle.pps_partition.specs.TileSizes.{TileSizes}
 
 -- 12 where the explicit sizes of an axis pass it, 13 where the grid is over its limits: columns, then rows
-unfoldable pub axes_tested : AxisRead → AxisRead → Result (Unit {0}) Refusal
-axes_tested columns rows =
-    cond columns.fits
-    (cond (leb columns.sizes max_tile_columns)
-    (cond rows.fits
-    (cond (leb rows.sizes (max_tiles / columns.sizes)) (Ok tt) (Err GridTooLarge))
-    (Err TileSizesSum))
-    (Err GridTooLarge))
-    (Err TileSizesSum)
+unfoldable pub axes_tested : Option ℕ → Option ℕ → Result NumTiles Refusal
+axes_tested None _ = Err TileSizesSum
+axes_tested (Some w) None = cond (leb w max_tile_columns) (Err TileSizesSum) (Err GridTooLarge)
+axes_tested (Some w) (Some h) =
+    cond (leb w max_tile_columns)
+    (cond (leb h (max_tiles / w)) (Ok (record { columns = w; rows = h })) (Err GridTooLarge))
+    (Err GridTooLarge)
 
 -- the same as the block's description has them
 unfoldable pub grid_tested : ℕ → ℕ → TileSizes → Cursor → Cursor

@@ -59,16 +59,16 @@ pub fn read_partition(
     let sizes = read?;
     let columns = sizes.columns;
     let rows = sizes.rows;
-    test_axes(columns, rows)?;
-    spread(&mut row_heights, rows, sizes.pic_height);
-    let num_tile_rows = rows.sizes as usize;
+    let num_tiles = test_axes(columns, rows)?;
+    spread(&mut row_heights, rows, num_tiles.rows, sizes.pic_height);
+    let num_tile_rows = num_tiles.rows as usize;
     let mut slices = SliceTablesMut {
         entries: tables.entries,
         split_heights: tables.split_heights,
     };
     let slicing = read_slicing(
         r,
-        columns.sizes as u8,
+        num_tiles.columns as u8,
         &row_heights[..num_tile_rows],
         &mut slices,
     )?;

@@ -76,24 +76,28 @@ pub fn read_tile_sizes(
     })
 }
 
-// Whether the explicit sizes of an axis pass it, or the grid its limits: columns, then rows.
+// How many columns and rows of tiles a grid has.
+#[derive(Clone, Copy, Debug, PartialEq, Eq)]
+pub struct NumTiles {
+    pub columns: u32,
+    pub rows: u32,
+}
+
+// How many sizes the axes of the grid have; refused where the explicit ones of an axis pass it, or the grid its limits:
+// columns, then rows.
 #[tactic(auto, unfolding(crate::specs::GridTests::axes_tested, tile_sizes::specs::Limits::within_limits))]
-pub fn test_axes(columns: AxisRead, rows: AxisRead) -> Result<(), Refusal>
-    ensures { result ≡ axes_tested columns rows }
+pub fn test_axes(columns: AxisRead, rows: AxisRead) -> Result<NumTiles, Refusal>
+    ensures { result ≡ axes_tested columns.sizes rows.sizes }
 {
-    if !columns.fits {
-        return Err(Refusal::TileSizesSum);
-    }
-    if columns.sizes > MAX_TILE_COLUMNS {
+    let columns = columns.sizes.ok_or(Refusal::TileSizesSum)?;
+    if columns > MAX_TILE_COLUMNS {
         return Err(Refusal::GridTooLarge);
     }
-    if !rows.fits {
-        return Err(Refusal::TileSizesSum);
-    }
-    if !within_limits(columns.sizes as usize, rows.sizes as usize) {
+    let rows = rows.sizes.ok_or(Refusal::TileSizesSum)?;
+    if !within_limits(columns as usize, rows as usize) {
         return Err(Refusal::GridTooLarge);
     }
-    Ok(())
+    Ok(NumTiles { columns, rows })
 }
 
 // The numbers of a table to the front of another; those that have no place there are left out.
@@ -105,16 +109,16 @@ pub fn copy_front(from: &[u32], to: &mut [u32])
 }
 
 // The sizes of an axis in place of the explicit ones minus 1, which are the first numbers of the table.
-pub fn spread(table: &mut [u32], axis: AxisRead, total: CtbCount)
+pub fn spread(table: &mut [u32], axis: AxisRead, num_sizes: u32, total: CtbCount)
     requires { (axis.count ≤ length table.old) × (axis.uniform ≡ uniform_size (take axis.count table.old))
         × Fit (take axis.count table.old) total.0
-        × (axis.sizes ≡ length (axis_sizes (take axis.count table.old) total.0))
-        × (axis.sizes ≤ length table.old) }
+        × (num_sizes ≡ length (axis_sizes (take axis.count table.old) total.0))
+        × (num_sizes ≤ length table.old) }
     ensures { table.new ≡ over (axis_sizes (take axis.count table.old) total.0) table.old }
 {
     let explicit = axis.count as usize;
     let mut remaining = total.0;
-    for j in 0..axis.sizes as usize {
+    for j in 0..num_sizes as usize {
         let size = next_size(&table[..explicit], axis.uniform, j, remaining);
         table[j] = size;
         remaining -= size;

@@ -1,5 +1,5 @@
 -- The explicit slice heights of a tile, as code comes to them.
-use Rattle.std.specs.Prelude.{ℕ, suc, ◌+◌, ◌-◌, ◌≤◌, ◌<◌, ◌≡◌, List, [], ◌∷◌, Bool, true, false, cond, eqb, ltb, leb, Result, Ok, Err, Some, None, length, refl}
+use Rattle.std.specs.Prelude.{ℕ, suc, ◌+◌, ◌-◌, ◌≤◌, ◌<◌, ◌≡◌, List, [], ◌∷◌, Bool, true, false, cond, eqb, ltb, leb, Option, Result, Ok, Err, Some, None, ok_or, length, refl}
 use Rattle.std.proofs.Common.{Bor, sym, ap, ap₂, ◌∙◌, arith, le-leb, ltb-true, ltb-false, ne_eqb, lit<}
 use Rattle.std.proofs.lemmas.Bool.{lt-leb}
 use Rattle.std.proofs.lemmas.List.Edits.{sets}
@@ -14,14 +14,14 @@ use Rattle.bit_reader.specs.Reading.{refusal, demanded}
 use Rattle.bit_reader.proofs.Gives.{given_back, refused_back, not-0, holds, holds-none, same-read}
 use Rattle.partition.specs.Entry.{num_slices_in_tile, split_heights}
 use Rattle.partition.proofs.Sizes.{length-sizes}
-use Rattle.partition.specs.Sizes.{axis_sizes, sum, explicit_sizes}
+use Rattle.partition.specs.Sizes.{axis_sizes, Fit}
 use Rattle.syntax.specs.Element.{Element}
 use Rattle.syntax.specs.Elements.{ue, limited}
 use Rattle.syntax.specs.Lists.{many}
 use Rattle.syntax.specs.Syntax.{parse, ◌>>=◌}
 use Rattle.syntax.proofs.Steps.{Follows, ◌⟫◌, stop, held, fails, end}
 use Rattle.pps_fields.specs.declared.lists.AxisRead.{AxisRead}
-use Rattle.pps_fields.specs.Axis.{axis_of}
+use Rattle.pps_fields.specs.Axis.{axis_of, counted-fit, uncounted-over}
 use Rattle.pps_fields.specs.Sizes.{sizes_read, sizes-many}
 use Rattle.pps_slices.specs.declared.parts.SplitRead.{SplitRead}
 use Rattle.pps_slices.specs.Parts.{last_of, explicit_heights, split_part, split_kept}
@@ -39,6 +39,15 @@ pub slices_enough : (hs : List ℕ) (row : ℕ) → (length hs ≤ num_slices_in
 unfolding num_slices_in_tile split_heights
 slices_enough [] row = (omega arith, omega arith)
 slices_enough (x ∷ hs) row = (omega (arith, length-sizes (x ∷ hs) row), omega (arith, length-sizes (x ∷ hs) row))
+
+-- a refusal in place of a missing value
+none_of : (x : Option ℕ) {e : Refusal} → Err e ≡ ok_or x SplitHeights → (x ≡ None) × (e ≡ SplitHeights)
+none_of None h = (refl, cc)
+none_of (Some n) h = absurd cc
+
+some_of : (x : Option ℕ) {m : ℕ} → Ok m ≡ ok_or x SplitHeights → x ≡ Some m
+some_of None h = absurd cc
+some_of (Some n) h = cc
 
 module _ (row N i : ℕ) where
   abbrev pub Split : Bool → BitReader → BitReader → Result SplitRead Refusal → Type 0
@@ -123,32 +132,36 @@ module _ (row N i : ℕ) where
           is : axis_of hs row ≡ a
           is = A.value
 
-          fits_is : leb (sum (explicit_sizes hs)) row ≡ a.fits
-          unfolding axis_of
-          fits_is = ap (λ (x : AxisRead). x.fits) is
+          sizes_are : (axis_of hs row).sizes ≡ a.sizes
+          sizes_are = ap (λ (x : AxisRead). x.sizes) is
 
           listed : Gives (many n (limited ue (λ v. ltb v row) 16 (lit< tt)) 26).read q r (Ok hs)
           listed = same-read (sizes-many n row 16 26 (lit< tt) q.bytes.now (cursor_of q)) (was_read (λ (es : List ℕ). axis_of es row) (sizes_read n row 16) A)
 
-          pub unfit : a.fits ≡ false → Split split p r (Err SplitHeights)
+          pub unfit : {e : Refusal} → Err e ≡ ok_or a.sizes SplitHeights → Split split p r (Err e)
           unfolding split_part explicit_heights ◌>>=◌ number
-          unfit h = rw S (not-kept true (g ⟫ held (le-leb _ _ few) (listed ⟫ fails (fits_is ∙ h) refl)))
+          unfit h =
+              let none = none_of a.sizes h in
+              rw (none.1, S) (not-kept true (g ⟫ held (le-leb _ _ few) (listed ⟫ fails (uncounted-over hs row (sizes_are ∙ none.0)) refl)))
 
-          module _ (fit : a.fits ≡ true) {k : ℕ} (K : k ≡ cond (eqb a.count 0) 1 a.sizes) where
+          module _ {m : ℕ} (some : Ok m ≡ ok_or a.sizes SplitHeights) {k : ℕ} (K : k ≡ cond (eqb a.count 0) 1 m) where
+            fit : Fit hs row × (m ≡ length (axis_sizes hs row))
+            fit = counted-fit hs row (sizes_are ∙ some_of a.sizes some)
+
             slices_are : k ≡ num_slices_in_tile hs row
             unfolding axis_of
-            slices_are = K ∙ rw (← is) (slices_of hs row)
+            slices_are = K ∙ rw (fit.1, ← is) (slices_of hs row)
 
             pub some_slices : 1 ≤ k
             some_slices = omega (arith, slices_are, slices_enough hs row)
 
             pub passed : true ≡ ltb N (i + k - 1) → Split split p r (Err TooManySplitSlices)
             unfolding split_part explicit_heights ◌>>=◌ number last_of
-            passed h = rw S (not-kept true (g ⟫ held (le-leb _ _ few) (listed ⟫ held (fits_is ∙ fit) (fails (lt-leb _ _ (omega (arith, ltb-true N (i + k - 1) (sym h), slices_are))) refl))))
+            passed h = rw S (not-kept true (g ⟫ held (le-leb _ _ few) (listed ⟫ held (le-leb _ _ fit.0) (fails (lt-leb _ _ (omega (arith, ltb-true N (i + k - 1) (sym h), slices_are))) refl))))
 
             all : false ≡ ltb N (i + k - 1) → Follows (split_part true row N i) p r (Ok hs)
             unfolding split_part explicit_heights ◌>>=◌ last_of
-            all h = g ⟫ held (le-leb _ _ few) (listed ⟫ held (fits_is ∙ fit) (held (le-leb _ _ (omega (arith, ltb-false N (i + k - 1) (sym h), slices_are))) end))
+            all h = g ⟫ held (le-leb _ _ few) (listed ⟫ held (le-leb _ _ fit.0) (held (le-leb _ _ (omega (arith, ltb-false N (i + k - 1) (sym h), slices_are))) end))
 
             pub split_made : false ≡ ltb N (i + k - 1) → Split split p r (Ok (record { count = Some a.count; last = record { 0 = i + (k - 1) } }))
             unfolding last_of axis_of

@@ -93,10 +93,8 @@ pub fn read_split(
         return Err(Refusal::TooManySplitSlices);
     }
     let heights = read_axis(r, count, row, Refusal::SplitHeights, split_heights, from)?;
-    if !heights.fits {
-        return Err(Refusal::SplitHeights);
-    }
-    let slices = num_slices_in_tile(heights.count, heights.sizes);
+    let sizes = heights.sizes.ok_or(Refusal::SplitHeights)?;
+    let slices = num_slices_in_tile(heights.count, sizes);
     if ctx.too_many_slices(slice, slices) {
         return Err(Refusal::TooManySplitSlices);
     }

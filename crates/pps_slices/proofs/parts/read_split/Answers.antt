@@ -1,6 +1,5 @@
 use Rattle.refusal.specs.Numbers.{number}
 use Rattle.bit_reader.proofs.Gives.{at_exit}
-use Rattle.pps_slices.proofs.Chain.{not-false, not-true}
 use Rattle.pps_slices.proofs.Splits.{unsplit, unsplit_table, uncounted, uncounted_table, too_many, too_many_table, unread, unfit, passed, some_slices, split_made, split_table}
 use Rattle.pps_slices.proofs.parts.read_split.Goals as goal
 
@@ -31,27 +30,27 @@ returns-in_err-heights c = record {
   table = split_table _ _ _ _ c.if-not-split.false c.in_ok-count.ensures.value c.if-count-left.false _ _ c.in_err-heights.ensures.table;
 }
 
-pub returns-then-not-heights : goal.returns-then-not-heights
+pub returns-in_err-sizes : goal.returns-in_err-sizes
 unfolding number
-returns-then-not-heights c = record {
-  gives = unfit _ _ _ _ c.if-not-split.false c.in_ok-count.ensures.value c.if-count-left.false c.in_ok-heights.ensures.axis (not-false _ c.if-not-heights.true);
+returns-in_err-sizes c = record {
+  gives = at_exit c.from_residual-in_err-sizes.ensures.1 (unfit _ _ _ _ c.if-not-split.false c.in_ok-count.ensures.value c.if-count-left.false c.in_ok-heights.ensures.axis c.in_err-sizes.ensures.value);
   table = split_table _ _ _ _ c.if-not-split.false c.in_ok-count.ensures.value c.if-count-left.false _ _ c.in_ok-heights.ensures.table;
 }
 
 pub returns-then-too_many_slices : goal.returns-then-too_many_slices
 unfolding number
 returns-then-too_many_slices c = record {
-  gives = passed _ _ _ _ c.if-not-split.false c.in_ok-count.ensures.value c.if-count-left.false c.in_ok-heights.ensures.axis (not-true _ c.if-not-heights.false) c.num_slices_in_tile-slices.ensures c.if-too_many_slices.ensures;
+  gives = passed _ _ _ _ c.if-not-split.false c.in_ok-count.ensures.value c.if-count-left.false c.in_ok-heights.ensures.axis c.in_ok-sizes.ensures.value c.num_slices_in_tile-slices.ensures c.if-too_many_slices.ensures;
   table = split_table _ _ _ _ c.if-not-split.false c.in_ok-count.ensures.value c.if-count-left.false _ _ c.in_ok-heights.ensures.table;
 }
 
 pub overflow_sub-result : goal.overflow_sub-result
 unfolding number
-overflow_sub-result c = some_slices _ _ _ _ c.if-not-split.false c.in_ok-count.ensures.value c.if-count-left.false c.in_ok-heights.ensures.axis (not-true _ c.if-not-heights.false) c.num_slices_in_tile-slices.ensures
+overflow_sub-result c = some_slices _ _ _ _ c.if-not-split.false c.in_ok-count.ensures.value c.if-count-left.false c.in_ok-heights.ensures.axis c.in_ok-sizes.ensures.value c.num_slices_in_tile-slices.ensures
 
 pub returns : goal.returns
 unfolding number
 returns c = record {
-  gives = split_made _ _ _ _ c.if-not-split.false c.in_ok-count.ensures.value c.if-count-left.false c.in_ok-heights.ensures.axis (not-true _ c.if-not-heights.false) c.num_slices_in_tile-slices.ensures c.if-too_many_slices.ensures;
+  gives = split_made _ _ _ _ c.if-not-split.false c.in_ok-count.ensures.value c.if-count-left.false c.in_ok-heights.ensures.axis c.in_ok-sizes.ensures.value c.num_slices_in_tile-slices.ensures c.if-too_many_slices.ensures;
   table = split_table _ _ _ _ c.if-not-split.false c.in_ok-count.ensures.value c.if-count-left.false _ _ c.in_ok-heights.ensures.table;
 }
