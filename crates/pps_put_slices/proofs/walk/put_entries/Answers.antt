@@ -34,15 +34,15 @@ put_rect_slice-requires c =
     let t = slice_tables c.args.slices.entries.now c.args.slices.split_heights.now in
     (heights-few t c.loop-i.i c.entry-e.ensures _ _ (omega arith) c.split_heights_of-heights.ensures, tiles-few _ _ c.requires.0 c.requires.1)
 
-pub returns-in_err-next : goal.returns-in_err-next
-returns-in_err-next c =
+pub returns-in_err-at : goal.returns-in_err-at
+returns-in_err-at c =
     let a = c.args in
     let H = c.loop-i.invariant in
     let t = slice_tables a.slices.entries.now a.slices.split_heights.now in
     let row = slice-at t c.loop-i.i c.entry-e.ensures H.place c.loop-i.from H.place_is c.split_heights_of-heights.ensures in
-    let E = c.in_err-next.ensures (grid_with a.column_widths.now a.row_heights.now) H.at.preceding_height_minus1 (record { columns_are = refl; rows_are = refl; heights_are = refl }) in
-    at_err _ _ _ _ c.from_residual-in_err-next.ensures.1
-    ∙ held-stops H (ltb-true _ _ c.in_ok-test.ensures.passed) (omega arith) (entry_tabled row E).put (λ z. absurd (let h = number_above0 c.in_err-next.field-0.0 in omega arith))
+    let E = c.in_err-at.ensures (grid_with a.column_widths.now a.row_heights.now) (record { columns_are = refl; rows_are = refl; heights_are = refl }) in
+    at_err _ _ _ _ c.from_residual-in_err-at.ensures.1
+    ∙ held-stops H (ltb-true _ _ c.in_ok-test.ensures.passed) (omega arith) (entry_tabled row E).put (λ z. absurd (let h = number_above0 c.in_err-at.field-0.0 in omega arith))
 
 pub loop-i-preserved : goal.loop-i-preserved
 loop-i-preserved c =
@@ -50,10 +50,10 @@ loop-i-preserved c =
     let H = c.loop-i.invariant in
     let t = slice_tables a.slices.entries.now a.slices.split_heights.now in
     let row = slice-at t c.loop-i.i c.entry-e.ensures H.place c.loop-i.from H.place_is c.split_heights_of-heights.ensures in
-    let E = c.in_ok-next.ensures (grid_with a.column_widths.now a.row_heights.now) H.at.preceding_height_minus1 (record { columns_are = refl; rows_are = refl; heights_are = refl }) in
+    let E = c.in_ok-at.ensures (grid_with a.column_widths.now a.row_heights.now) (record { columns_are = refl; rows_are = refl; heights_are = refl }) in
     let F = entry_tabled row E in
     let behind = ap (λ (l : List ℕ). c.loop-i.from + length l) c.split_heights_of-heights.ensures ∙ place_behind a.slices.split_heights.now (split_count t c.loop-i.i) H.place c.loop-i.from H.place_is in
-    held_more H (ltb-true _ _ c.in_ok-test.ensures.passed) (omega arith) F.put F.follows behind
+    held_more H (ltb-true _ _ c.in_ok-test.ensures.passed) (omega arith) F.put F.follows.0 F.follows.1 behind
 
 pub returns : goal.returns
 unfolding number

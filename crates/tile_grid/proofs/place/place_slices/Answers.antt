@@ -19,16 +19,16 @@ pub bounds-placed-i : goal.bounds-placed-i
 bounds-placed-i c = omega (arith, placing_room c.loop-i.invariant c.loop-i-test.true _ _ c.entry-e.ensures c.split_heights_of-heights.ensures, c.requires.3)
 
 pub place_group-slice-requires : goal.place_group-slice-requires
-place_group-slice-requires c = placing_fits c.loop-i.invariant c.loop-i-test.true _ _ c.entry-e.ensures c.split_heights_of-heights.ensures c.requires.0 c.requires.1 _ _ c.place-at.ensures.0 c.place-at.ensures.1 c.requires.3 blank-long
+place_group-slice-requires c = placing_fits c.loop-i.invariant c.loop-i-test.true _ _ c.entry-e.ensures c.split_heights_of-heights.ensures c.requires.0 c.requires.1 _ _ c.place-corner.ensures.0 c.place-corner.ensures.1 c.requires.3 blank-long
 
 pub loop-i-preserved : goal.loop-i-preserved
-loop-i-preserved c = placing_goes-on c.loop-i.invariant c.loop-i-test.true _ _ c.entry-e.ensures c.split_heights_of-heights.ensures c.requires.0 c.requires.1 _ _ c.place-at.ensures.0 c.place-at.ensures.1 _ c.place_group-slice.ensures.next _ c.place_group-slice.ensures.slices _ (ap (λ (u : TileIdx). u.0) c.next_tile-tile.ensures) (tiles-small c.requires.0 c.requires.1)
+loop-i-preserved c = placing_goes-on c.loop-i.invariant c.loop-i-test.true _ _ c.entry-e.ensures c.split_heights_of-heights.ensures c.requires.0 c.requires.1 _ _ c.place-corner.ensures.0 c.place-corner.ensures.1 _ c.place_group-slice.ensures.next _ c.place_group-slice.ensures.slices _ (ap (λ (u : TileIdx). u.0) c.next_tile-tile.ensures) (tiles-small c.requires.0 c.requires.1)
 
 pub place_group-slice-requires-then-slice-n : goal.place_group-slice-requires-then-slice-n
-place_group-slice-requires-then-slice-n c = last_fits c.loop-i.invariant c.loop-i-test.false c.if-slice-n.true c.requires.0 c.requires.1 _ _ _ _ c.place-at-then-slice-n.ensures.0 c.place-at-then-slice-n.ensures.1 c.columns_left.ensures c.rows_left.ensures _ refl c.requires.3 blank-long
+place_group-slice-requires-then-slice-n c = last_fits c.loop-i.invariant c.loop-i-test.false c.if-slice-n.true c.requires.0 c.requires.1 _ _ _ _ c.place-corner-then-slice-n.ensures.0 c.place-corner-then-slice-n.ensures.1 c.columns_left.ensures c.rows_left.ensures _ refl c.requires.3 blank-long
 
 pub returns : goal.returns
 returns c = elim c.if-slice-n.branch [
-  | then-slice-n w ↦ rw (w.placed-is, w.slice-is) (all_placed (with_last c.loop-i.invariant c.loop-i-test.false w.if-slice-n.true c.requires.0 c.requires.1 _ _ _ _ w.place-at-then-slice-n.ensures.0 w.place-at-then-slice-n.ensures.1 w.columns_left.ensures w.rows_left.ensures _ refl _ w.place_group-slice-then-slice-n.ensures.next _ w.place_group-slice-then-slice-n.ensures.slices) c.requires.3)
+  | then-slice-n w ↦ rw (w.placed-is, w.slice-is) (all_placed (with_last c.loop-i.invariant c.loop-i-test.false w.if-slice-n.true c.requires.0 c.requires.1 _ _ _ _ w.place-corner-then-slice-n.ensures.0 w.place-corner-then-slice-n.ensures.1 w.columns_left.ensures w.rows_left.ensures _ refl _ w.place_group-slice-then-slice-n.ensures.next _ w.place_group-slice-then-slice-n.ensures.slices) c.requires.3)
   | else-slice-n w ↦ rw (w.placed-is, w.slice-is) (all_placed (without-last c.loop-i.invariant c.loop-i-test.false (omega (arith, w.if-slice-n.false))) c.requires.3)
 ]
