@@ -1,8 +1,8 @@
 -- What holds at each turn of the slice loop over the tables: what is left to be put, behind what was put, makes the whole.
 use Prim.Native.Nat.{ℕ, zero, suc, ◌+◌, ◌-◌, ◌≤◌, ◌<◌, min}
-use Rattle.std.specs.Prelude.{◌≡◌, List, [], ◌∷◌, ◌++◌, Bool, false, ltb, leb, length}
+use Rattle.std.specs.Prelude.{◌≡◌, List, [], ◌∷◌, ◌++◌, Bool, false, not, ltb, leb, length}
 use Rattle.std.proofs.Math.Path.{refl, sym, ap}
-use Rattle.std.proofs.Common.{subst, ◌∙◌, lt-ltb, le-ltb, le-leb, leb-true, leb-false}
+use Rattle.std.proofs.Common.{subst, ◌∙◌, lt-ltb, le-ltb, ltb-true, ltb-false, le-leb, leb-true, leb-false}
 use Rattle.std.proofs.Math.Bool.{true}
 use Rattle.std.proofs.Math.Nat.{sub-zero}
 use native.Mathlib.Omega.{arith}
@@ -161,12 +161,12 @@ module _ {g : Grid} {deltas : Bool} {N : ℕ} {t : SliceTables} {count : ℕ} {w
   held-left h k e = held-ends k (e ∙ ap (λ (b : Bool). play_on w (check b 26)) (sym (lt-leb count i h)))
 
   -- behind the last entry
-  pub held-over : {v : Writing} → count ≤ i → v ≡ play_on w (check (leb N p.slice.0) 26) → v ≡ whole_loop g deltas N t count w₀
-  held-over {v} h = split (leb N p.slice.0) refl
+  pub held-over : {v : Writing} → count ≤ i → v ≡ play_on w (check (not (ltb p.slice.0 N)) 26) → v ≡ whole_loop g deltas N t count w₀
+  held-over {v} h = split (ltb p.slice.0 N) refl
     where
-      split : (b : Bool) → leb N p.slice.0 ≡ b → v ≡ play_on w (check b 26) → v ≡ whole_loop g deltas N t count w₀
-      split true q e = held-ends (leb-true N slice q) (e ∙ ap (λ (b : Bool). play_on w (check b 26)) (sym (le-leb count i h)))
-      split false q e = held-short (leb-false N slice q) h e
+      split : (b : Bool) → ltb p.slice.0 N ≡ b → v ≡ play_on w (check (not b) 26) → v ≡ whole_loop g deltas N t count w₀
+      split false q e = held-ends (ltb-false p.slice.0 N q) (e ∙ ap (λ (b : Bool). play_on w (check b 26)) (sym (le-leb count i h)))
+      split true q e = held-short (ltb-true p.slice.0 N q) h e
 
 -- over the same grid
 pub in_grid : {g h : Grid} (deltas : Bool) (N : ℕ) (t : SliceTables) (count : ℕ) (w : Writing) {v : Writing} → g ≡ h

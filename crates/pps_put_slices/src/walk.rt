@@ -42,11 +42,11 @@ pub fn put_entries(
     let mut at = LoopPosition::FIRST;
     let mut from: usize = 0;
     for i in 0..count {
-        test(at.slice < n, Refusal::Contradiction)?;
+        test(ctx.slices_to_come(at.slice), Refusal::Contradiction)?;
         let heights = slices.split_heights_of(i, from);
         let e = slices.entry(i);
         at = put_rect_slice(w, out, row_heights, ctx, at, e, heights)?;
         from += heights.len();
     }
-    test(at.slice >= n, Refusal::Contradiction)
+    test(!ctx.slices_to_come(at.slice), Refusal::Contradiction)
 }

@@ -45,11 +45,10 @@ fn read_loop(
         (refused_heights g ctx.delta_present ctx.num_slices_minus1.0 first_position
         r.old.bytes.now (cursor_of r.old)) }
 {
-    let n = ctx.num_slices_minus1;
     let mut at = LoopPosition::FIRST;
     let mut count: u32 = 0;
     let mut from: usize = 0;
-    while at.slice < n {
+    while ctx.slices_to_come(at.slice) {
         let entry = read_rect_slice(r, row_heights, ctx, at, split_heights, from)?;
         put_slice(entry, count, entries);
         from += entry.split_count.unwrap_or(0) as usize;

@@ -129,7 +129,7 @@ pub fn entry_step(
     inherited_refusal(ctx, at, e)?;
     let slices = split_refusal(ctx, at.slice, row, e, heights)?;
     let slice = SliceIdx(at.slice.0 + slices);
-    let tile = move_refusal(ctx, at.tile, slice <= ctx.num_slices_minus1, e)?;
+    let tile = move_refusal(ctx, at.tile, ctx.has_slice(slice), e)?;
     Ok(LoopPosition {
         slice,
         tile,

@@ -38,14 +38,14 @@ pub fn walk_refusal(
     let mut at = LoopPosition::FIRST;
     let mut from: usize = 0;
     for i in 0..count {
-        if at.slice >= n {
+        if !ctx.slices_to_come(at.slice) {
             return Err(Refusal::Contradiction);
         }
         let heights = slices.split_heights_of(i, from);
         at = entry_step(ctx, row_heights, at, slices.entry(i), heights)?;
         from += heights.len();
     }
-    if at.slice < n {
+    if ctx.slices_to_come(at.slice) {
         return Err(Refusal::Contradiction);
     }
     Ok(())

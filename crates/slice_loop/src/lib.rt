@@ -2,7 +2,7 @@
 // out of the grid.
 #![tactic(auto)]
 
-ghost use Rattle.std.specs.Prelude.{◌≡◌, suc, ◌+◌, ◌-◌, ◌*◌, min, ltb};
+ghost use Rattle.std.specs.Prelude.{◌≡◌, suc, ◌+◌, ◌-◌, ◌*◌, min, leb, ltb};
 ghost use Rattle.partition.specs.Entry.{tile_x, tile_y, in_last_row, width_coded, height_coded, inherited_height, split_coded, tile_row_height, default_advance, delta_uncodable};
 ghost use Rattle.slice_loop.specs.Answers.{tile_idx_of, next_by_delta};
 
@@ -158,6 +158,13 @@ impl SliceLoopCtx {
         ensures { result ≡ split_coded w_m1 h_m1 row_height.0 }
     {
         w_m1 == 0 && h_m1 == 0 && row_height > CtbCount(1)
+    }
+
+    // There is a slice of this index.
+    pub fn has_slice(self, slice_idx: SliceIdx) -> bool
+        ensures { result ≡ leb slice_idx.0 self.num_slices_minus1.0 }
+    {
+        slice_idx <= self.num_slices_minus1
     }
 
     // Slices are still to come after this index.

@@ -119,7 +119,7 @@ pub fn place_slices(
     }
     placed.num_groups = count;
     let mut slice = at.slice;
-    if slice <= n {
+    if ctx.has_slice(slice) {
         let corner = ctx.place(at.tile);
         let group = TileGroup {
             x: corner.x,
