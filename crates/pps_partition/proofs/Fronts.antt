@@ -1,53 +1,88 @@
 -- The fronts of tables: copied, and spread in place.
 use Prim.Native.Nat.{ℕ, zero, suc, ◌+◌, ◌-◌, ◌≤◌, ◌<◌, min}
 use mathlib.Core.Path.{◌≡◌, refl, sym, ap, ◌∙◌}
+use Rattle.std.proofs.Common.{ap₂, append-nil, take_all, length-drop, drop_of_length-le}
 use mathlib.Core.List.{List, [], ◌∷◌, ◌++◌}
 use native.Mathlib.Nat.{sub-zero}
 use native.Mathlib.Omega.{arith}
-use lib.ListN.{length, take, drop, replicate, length-replicate, length-append}
-use lib.Seq.{sets, take-nil, length-take-le, length-sets}
+use lib.ListN.{length, take, drop, set, replicate, length-replicate, length-append}
+use lib.Seq.{sets, take-nil, take-set-lt, take-append_seam, length-take-le, length-sets}
 use mathlib.Core.Bool.{Bool, true, false}
-use lib.Dec.{leb}
-use borrow.Author.Tests.{leb-true, leb-false}
-use Rattle.std.proofs.lemmas.List.{set_past, take-append-drop, take-take}
-use Rattle.std.proofs.Common.{drop_of_length-le}
-use Rattle.tables.specs.Tables.{over, sets_over, sets_append}
+use lib.Dec.{leb, ltb}
+use borrow.Author.Tests.{leb-true, leb-false, ltb-true, ltb-false}
+use Rattle.std.proofs.lemmas.List.{set_past, take-set-le, drop-set-lt, take-append-drop, length-take}
 use Rattle.partition.specs.Grid.{max_tiles}
 use Rattle.partition.specs.Sizes.{uniform_size, axis_sizes, uniform_pos, Fit}
 use Rattle.tile_sizes.specs.Answers.{next_size}
 use Rattle.tile_sizes.specs.Left.{sizes_left, next-left, end-left}
 use Rattle.grid_sizes.proofs.Fill.{Filling}
+use Rattle.grid_sizes.specs.Fronts.{take-most}
 
 -- ---- copied
-sets-past : (t ys : List ℕ) (i : ℕ) → length t ≤ i → sets t i ys ≡ t
-sets-past t [] i h = refl
-sets-past t (y ∷ ys) i h = rw (set_past t i y h) (sets-past t ys (suc i) (omega arith))
-
 -- what has no place is left out
-pub copied : (t from u : List ℕ) (count n : ℕ) → n ≡ min count (length t) → u ≡ take n from → count ≤ length from → u ++ drop n t ≡ sets t 0 (take count from)
-unfolding over
-copied t from u count n e f h =
-    let front : length (take n from) ≡ n = length-take-le n from (omega arith) in
-    let laid : sets t 0 (take n from) ≡ take n from ++ drop n t = sets_over t (take n from) (omega arith) ∙ ap (λ (k : ℕ). take n from ++ drop k t) front in
-    let rest = drop n (take count from) in
-    let parts : take n from ++ rest ≡ take count from = ap (λ (l : List ℕ). l ++ rest) (sym (take-take n count from (omega arith))) ∙ take-append-drop n (take count from) in
-    let left : sets (sets t 0 (take n from)) (0 + length (take n from)) rest ≡ sets t 0 (take n from) = past (leb count (length t)) refl in
-    rw f (sym laid ∙ sym left ∙ sym (sets_append (take n from) rest t 0) ∙ ap (sets t 0) parts)
+pub copied : (t from u : List ℕ) (n : ℕ) → n ≡ min (length from) (length t) → u ≡ take n from → u ++ drop n t ≡ take (length t) from ++ drop (length from) t
+copied t from u n e f = rw f (ap₂ (λ (x y : List ℕ). x ++ y) (ap (λ (k : ℕ). take k from) (let same : n ≡ min (length t) (length from) = omega arith in same) ∙ take-most (length t) from) (rest (leb (length from) (length t)) refl))
   where
-    past : (b : Bool) → leb count (length t) ≡ b → sets (sets t 0 (take n from)) (0 + length (take n from)) (drop n (take count from)) ≡ sets t 0 (take n from)
-    past true q =
-        let all : n ≡ count = omega (arith, leb-true count (length t) q) in
-        let few : length (take count from) ≤ n = omega (arith, length-take-le count from h) in
-        rw (drop_of_length-le (take count from) few)
-    past false q =
-        sets-past (sets t 0 (take n from)) (drop n (take count from)) (0 + length (take n from))
-        (omega (arith, leb-false count (length t) q, length-sets t 0 (take n from), length-take-le n from (omega (arith, leb-false count (length t) q))))
+    rest : (b : Bool) → leb (length from) (length t) ≡ b → drop n t ≡ drop (length from) t
+    rest true q = ap (λ (k : ℕ). drop k t) (omega (arith, leb-true (length from) (length t) q))
+    rest false q =
+        let long = leb-false (length from) (length t) q in
+        drop_of_length-le t (omega arith) ∙ sym (drop_of_length-le t (omega arith))
 
--- ---- spread in place
--- a table of as many rows as there may be
-pub table-long : length {A = ℕ} (replicate max_tiles 0) ≡ max_tiles
+copied-length : (t from : List ℕ) → length (take (length t) from ++ drop (length from) t) ≡ length t
+copied-length t from = length-append (take (length t) from) (drop (length from) t) ∙ omega (arith, length-take (length t) from, length-drop (length from) t)
+
+-- ---- numbers stored in a table, and the front of it
+take_set : (n : ℕ) (l : List ℕ) (i y : ℕ) → take n (set l i y) ≡ set (take n l) i y
+take_set n l i y = cases (ltb i n) refl
+  where
+    cases : (b : Bool) → ltb i n ≡ b → take n (set l i y) ≡ set (take n l) i y
+    cases true q = take-set-lt n l i y (ltb-true i n q)
+    cases false q = let past = ltb-false i n q in take-set-le n l i y past ∙ sym (set_past (take n l) i y (omega (arith, length-take n l)))
+
+take-sets : (n : ℕ) (ys l : List ℕ) (i : ℕ) → take n (sets l i ys) ≡ sets (take n l) i ys
+take-sets n [] l i = refl
+take-sets n (y ∷ ys) l i = take-sets n ys (set l i y) (suc i) ∙ ap (λ (x : List ℕ). sets x (suc i) ys) (take_set n l i y)
+
+drop-sets : (n : ℕ) (ys l : List ℕ) (i : ℕ) → i + length ys ≤ n → drop n (sets l i ys) ≡ drop n l
+drop-sets n [] l i h = refl
+drop-sets n (y ∷ ys) l i h = drop-sets n ys (set l i y) (suc i) (omega arith) ∙ drop-set-lt n l i y (omega arith)
+
+-- ---- a table of as many rows as there may be
+abbrev pub room : List ℕ
+room = replicate max_tiles 0
+
+table-long : length room ≡ max_tiles
 table-long = length-replicate {A = ℕ} max_tiles 0
 
+-- A table t is copied to its front, numbers are read over it there, and the front is copied back: they are stored in t.
+module _ (t : List ℕ) {first : List ℕ} (f : first ≡ take (length room) t ++ drop (length t) room) where
+  pub room_long : length first ≡ max_tiles
+  room_long = ap length f ∙ copied-length room t ∙ table-long
+
+  pub there_and_back : (hs : List ℕ) {read u : List ℕ} → read ≡ sets first 0 hs → length hs ≤ max_tiles → u ≡ take (length t) read ++ drop (length read) t → u ≡ sets t 0 hs
+  there_and_back hs {read} r few e = e ∙ cases (leb (length t) max_tiles) refl
+    where
+      as_long : length read ≡ max_tiles
+      as_long = ap length r ∙ length-sets first 0 hs ∙ room_long
+
+      cases : (b : Bool) → leb (length t) max_tiles ≡ b → take (length t) read ++ drop (length read) t ≡ sets t 0 hs
+      cases true q =
+          let short = leb-true (length t) max_tiles q in
+          let whole : take (length room) t ≡ t = take_all (length room) t (omega (arith, table-long)) in
+          let back : take (length t) first ≡ t = ap (take (length t)) (f ∙ ap (λ (l : List ℕ). l ++ drop (length t) room) whole) ∙ take-append_seam t (drop (length t) room) in
+          let front : take (length t) read ≡ sets t 0 hs = rw r (take-sets (length t) hs first 0 ∙ ap (λ (l : List ℕ). sets l 0 hs) back) in
+          let none : drop (length read) t ≡ [] = drop_of_length-le t (omega (arith, as_long)) in
+          rw (front, none) (append-nil (sets t 0 hs))
+      cases false q =
+          let long = leb-false (length t) max_tiles q in
+          let past : length room ≤ length t = omega (arith, table-long) in
+          let none : drop (length t) room ≡ [] = drop_of_length-le room past in
+          let only : first ≡ take max_tiles t = f ∙ ap₂ (λ (n : ℕ) (l : List ℕ). take n t ++ l) table-long none ∙ append-nil (take max_tiles t) in
+          let front : take (length t) read ≡ take max_tiles (sets t 0 hs) = take_all (length t) read (omega (arith, as_long)) ∙ r ∙ ap (λ (l : List ℕ). sets l 0 hs) only ∙ sym (take-sets max_tiles hs t 0) in
+          rw (front, as_long, ← (drop-sets max_tiles hs t 0 (omega arith))) (take-append-drop max_tiles (sets t 0 hs))
+
+-- ---- spread in place
 drop-take : (j n : ℕ) (l : List ℕ) → drop j (take n l) ≡ take (n - j) (drop j l)
 drop-take zero n l = rw (sub-zero n)
 drop-take (suc j) zero l = let z : 0 - suc j ≡ 0 = omega arith in rw z

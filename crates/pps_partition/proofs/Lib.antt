@@ -2,3 +2,4 @@ pub mod Fronts
 pub mod Slices
 pub mod Sizes
 pub mod Whole
+pub mod NothingLeft

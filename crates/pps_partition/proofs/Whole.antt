@@ -1,6 +1,6 @@
 -- The parts of the block, one behind the other, are the block as its description has it.
-use Rattle.std.specs.Prelude.{ℕ, ◌≤◌, ◌/◌, ◌≡◌, List, Bool, true, false, cond, ◌&&◌, leb, Result, Ok, Err, length, take, drop, refl}
-use Rattle.std.proofs.Common.{sym, ap, ◌∙◌, arith, leb-true}
+use Rattle.std.specs.Prelude.{ℕ, ◌≤◌, ◌/◌, ◌≡◌, List, ◌++◌, Bool, true, false, cond, ◌&&◌, leb, Result, Ok, Err, length, take, drop, refl}
+use Rattle.std.proofs.Common.{Bor, sym, ap, ◌∙◌, arith, leb-true}
 use Rattle.std.proofs.Math.Seq.{take_at, length-sets, length-take-le}
 use Rattle.std.proofs.lemmas.List.Edits.{sets}
 use Rattle.tables.specs.Tables.{over as laid_over, sets_over, over-length}
@@ -19,19 +19,24 @@ use Rattle.partition.specs.Sizes.{uniform_size, axis_sizes, Fit}
 use Rattle.pps_record.specs.declared.VvcPpsPartition.{VvcPpsPartition}
 use Rattle.pps_syntax.specs.PartitionSyntax.{PartitionBlock, partition}
 use Rattle.pps_syntax.specs.Record.{partition_record}
-use Rattle.pps_syntax.specs.SliceTables.{SliceTables, put_slices}
+use Rattle.pps_syntax.specs.SliceTables.{SliceTables}
 use Rattle.syntax.specs.Syntax.{parse, ◌>>=◌}
 use Rattle.syntax.proofs.Round.{parse-stuck}
 use Rattle.tile_sizes.specs.Limits.{within_limits, Limited, limits_held}
 use Rattle.pps_fields.specs.Axis.{axis_of}
 use Rattle.pps_slices.specs.Grids.{GridHas}
+use Rattle.pps_slices.specs.Loop.{slices_left}
 use Rattle.pps_slices.proofs.Chain.{was_read, was_refused}
+use Rattle.pps_slices.proofs.Stuck.{Stuck, stays-stuck}
 use Rattle.pps_partition.specs.declared.slicing.SlicingRead.{SlicingRead}
 use Rattle.pps_partition.specs.declared.tiles.TileSizesRead.{TileSizesRead}
 use Rattle.pps_partition.specs.GridTests.{axes_tested, grid_tested}
-use Rattle.pps_partition.specs.PartitionAnswer.{one_block}
-use Rattle.pps_partition.specs.Slicing.{Slicing, slicing, slicing_kept}
+use Rattle.pps_partition.specs.PartitionAnswer.{one_block, partition_left}
+use Rattle.pps_partition.specs.Slicing.{Slicing, slicing, slicing_kept, slicing_left}
 use Rattle.pps_partition.specs.TileSizes.{TileSizes, tile_sizes, sizes_kept, grid_from}
+use Rattle.pps_partition.proofs.Fronts.{room, there_and_back}
+use Rattle.pps_partition.proofs.Sizes.{rows_few}
+use Rattle.pps_partition.proofs.Slices.{sliced-none}
 
 -- ---- four tests, one behind the other
 abbrev tested : Bool → Bool → Bool → Bool → Result (Unit {0}) Refusal
@@ -77,13 +82,13 @@ block_of t l =
 
 module _ (W H : ℕ) where
   -- what is read behind the sizes
-  sliced_at : TileSizes → List ℕ → Cursor → Parsed Slicing
+  unfoldable pub sliced_at : TileSizes → List ℕ → Cursor → Parsed Slicing
   sliced_at t s c = parse (slicing (grid_from W H t)) s (grid_tested W H t c)
 
   abbrev behind_sizes : TileSizes → List ℕ → Cursor → Parsed PartitionBlock
   behind_sizes t s c = parsed (block_of t (sliced_at t s c).value) (sliced_at t s c).next
 
-  splits : (s : List ℕ) (c : Cursor) → parse (partition W H) s c ≡ behind_sizes (parse (tile_sizes W H) s c).value s (parse (tile_sizes W H) s c).next
+  pub splits : (s : List ℕ) (c : Cursor) → parse (partition W H) s c ≡ behind_sizes (parse (tile_sizes W H) s c).value s (parse (tile_sizes W H) s c).next
   unfolding partition tile_sizes slicing grid_tested sliced_at parse ◌>>=◌
   splits s c = refl
 
@@ -99,6 +104,39 @@ module _ (W H : ℕ) where
   tested-as : (t : TileSizes) (at : ℕ) → grid_tested W H t (cursor_at at) ≡ record { at = at; refused = refused (axes_tested (sizes_kept W H t).columns (sizes_kept W H t).rows) }
   unfolding grid_tested axes_tested axis_of
   tested-as t at = tests_are _ _ _ _ at
+
+  -- ---- the tables, refused or not
+  module _ (p : BitReader) where
+    abbrev sizes_read : Parsed TileSizes
+    sizes_read = parse (tile_sizes W H) p.bytes.now (cursor_of p)
+
+    abbrev behind_tests : Cursor
+    behind_tests = grid_tested W H sizes_read.value sizes_read.next
+
+    block_read : value_read (parse (partition W H)) p ≡ (behind_sizes sizes_read.value p.bytes.now sizes_read.next).value
+    block_read = ap (λ (b : Parsed PartitionBlock). b.value) (splits p.bytes.now (cursor_of p))
+
+    pub columns_put : (t u : List ℕ) → u ≡ sets t 0 sizes_read.value.pps_tile_column_width_minus1 → u ≡ sets t 0 (value_read (parse (partition W H)) p).pps_tile_column_width_minus1
+    columns_put t u e = e ∙ ap (λ (b : PartitionBlock). sets t 0 b.pps_tile_column_width_minus1) (sym block_read)
+
+    -- the rows, read over a copy of their table's front that goes back there
+    pub rows_put : (t : List ℕ) {first read u : List ℕ} → first ≡ take (length room) t ++ drop (length t) room → read ≡ sets first 0 sizes_read.value.pps_tile_row_height_minus1
+        → u ≡ take (length t) read ++ drop (length read) t → u ≡ sets t 0 (value_read (parse (partition W H)) p).pps_tile_row_height_minus1
+    rows_put t f r e = there_and_back t f _ r (rows_few W H p.bytes.now (cursor_of p)) e ∙ ap (λ (b : PartitionBlock). sets t 0 b.pps_tile_row_height_minus1) (sym block_read)
+
+    abbrev pub SlicesPut : SliceTables → SliceTables → Type 0
+    SlicesPut t u = u ≡ slices_left t 0 0 (value_read (parse (partition W H)) p).rect_slices (partition_left W H p.bytes.now (cursor_of p))
+
+    -- as the slicing behind the tests leaves them
+    slices_behind : (t u : SliceTables) → u ≡ slices_left t 0 0 (parse (slicing (grid_from W H sizes_read.value)) p.bytes.now behind_tests).value.rect_slices (slicing_left (grid_from W H sizes_read.value) p.bytes.now behind_tests)
+        → SlicesPut t u
+    unfolding partition_left sliced_at
+    slices_behind t u e =
+        e ∙ ap (λ (b : PartitionBlock). slices_left t 0 0 b.rect_slices (slicing_left (grid_from W H sizes_read.value) p.bytes.now behind_tests)) (sym block_read)
+
+    -- nothing is put where a refusal stands before
+    slices_none : Stuck behind_tests → (t : SliceTables) → SlicesPut t t
+    slices_none h t = slices_behind t t (sliced-none (grid_from W H sizes_read.value) p.bytes.now behind_tests h t)
 
   abbrev pub Block : BitReader → BitReader → Result VvcPpsPartition Refusal → Type 0
   Block p r x = Gives (held_as one_block (parse (partition W H))) p r x
@@ -130,6 +168,11 @@ module _ (W H : ℕ) where
         let last = sliced-stuck y.value s y.next (λ z. stuck (ap (λ (c : Cursor). c.refused) (sym tests) ∙ z)) in
         block-refused (refuses S.bytes (is ∙ sym (ap (λ (b : Parsed PartitionBlock). b.next) (splits s (cursor_of p)) ∙ last ∙ tests)))
 
+    pub no_sizes_put : {e : Refusal} → Gives (held_as (sizes_kept W H) (parse (tile_sizes W H))) p q (Err e) → (t : SliceTables) → SlicesPut p t t
+    no_sizes_put {e} S =
+        let stuck = not-0 e q.bit_pos (refused_back (was_refused (sizes_kept W H) (parse (tile_sizes W H)) S)) in
+        slices_none p (stays-stuck (tested-stuck (sizes_read p).value (sizes_read p).next stuck) stuck)
+
     module _ {z : TileSizesRead} (S : Gives (held_as (sizes_kept W H) (parse (tile_sizes W H))) p q (Ok z)) where
       base : parse (partition W H) p.bytes.now (cursor_of p) ≡ behind_sizes (sizes_at p) p.bytes.now (cursor_of q)
       base =
@@ -149,7 +192,24 @@ module _ (W H : ℕ) where
           let last = sliced-stuck (sizes_at p) p.bytes.now (cursor_of q) (not-0 e q.bit_pos is) in
           block-refused (refuses S.bytes (is ∙ sym last ∙ sym (ap (λ (b : Parsed PartitionBlock). b.next) base)))
 
+      -- where the sizes were read to
+      read_to : behind_tests p ≡ grid_tested W H (sizes_at p) (cursor_of q)
+      read_to = ap (λ (y : Parsed TileSizes). grid_tested W H y.value y.next) (sym (given_back (was_read (sizes_kept W H) (parse (tile_sizes W H)) S)))
+
+      pub no_grid_put : {e : Refusal} → Err e ≡ axes_tested z.columns z.rows → (t : SliceTables) → SlicesPut p t t
+      unfolding refused
+      no_grid_put {e} x = slices_none p (not-0 e q.bit_pos (sym (read_to ∙ tests x)))
+
       module _ (fine : Ok tt ≡ axes_tested z.columns z.rows) where
+        -- as the slicing leaves them, refused or not
+        pub slices_put : (t u : SliceTables) → u ≡ slices_left t 0 0 (value_read (parse (slicing (grid_at p))) q).rect_slices (slicing_left (grid_at p) q.bytes.now (cursor_of q)) → SlicesPut p t u
+        unfolding refused
+        slices_put t u e =
+            let there : cursor_of q ≡ behind_tests p = sym (read_to ∙ tests fine) in
+            slices_behind p t u
+            (e ∙ ap (λ (b : Bor (List ℕ)). slices_left t 0 0 (parse (slicing (grid_at p)) b.now (cursor_of q)).value.rect_slices (slicing_left (grid_at p) b.now (cursor_of q))) S.bytes
+            ∙ ap (λ (c : Cursor). slices_left t 0 0 (parse (slicing (grid_at p)) p.bytes.now c).value.rect_slices (slicing_left (grid_at p) p.bytes.now c)) there)
+
         going : sliced_at (sizes_at p) p.bytes.now (cursor_of q) ≡ parse (slicing (grid_at p)) p.bytes.now (cursor_of q)
         unfolding sliced_at refused
         going = ap (parse (slicing (grid_at p)) p.bytes.now) (tests fine)
@@ -184,15 +244,6 @@ module _ (W H : ℕ) where
           unfolding partition_record axis_of
           block_made = holds one_block block (rw (← S.value, ← L.value) refl)
 
-          pub columns_put : (t u : List ℕ) → u ≡ sets t 0 (sizes_at p).pps_tile_column_width_minus1 → u ≡ sets t 0 (value_read (parse (partition W H)) p).pps_tile_column_width_minus1
-          columns_put t u e = e ∙ ap (λ (b : PartitionBlock). sets t 0 b.pps_tile_column_width_minus1) (sym block.value)
-
-          pub rows_put : (t u : List ℕ) → u ≡ sets t 0 (sizes_at p).pps_tile_row_height_minus1 → u ≡ sets t 0 (value_read (parse (partition W H)) p).pps_tile_row_height_minus1
-          rows_put t u e = e ∙ ap (λ (b : PartitionBlock). sets t 0 b.pps_tile_row_height_minus1) (sym block.value)
-
-          pub slices_put : (t u : SliceTables) → u ≡ put_slices t 0 0 sliced.rect_slices → u ≡ put_slices t 0 0 (value_read (parse (partition W H)) p).rect_slices
-          slices_put t u e = e ∙ ap (λ (b : PartitionBlock). put_slices t 0 0 b.rect_slices) (sym block.value)
-
         -- ---- the grid
         held : (leb z.columns.sizes max_tile_columns ≡ true) × (z.rows.fits ≡ true) × (leb z.rows.sizes (max_tiles / z.columns.sizes) ≡ true)
         unfolding axes_tested
@@ -213,17 +264,20 @@ module _ (W H : ℕ) where
         sizes_are = (sym (ap (λ (y : TileSizesRead). y.columns.sizes) S.value), sym (ap (λ (y : TileSizesRead). y.rows.sizes) S.value))
 
         -- the explicit rows are the front of a table v of the limit
-        module _ (v₀ v : List ℕ) (long : length v₀ ≡ max_tiles) (few : z.rows.count ≤ max_tiles) (put : v ≡ sets v₀ 0 (sizes_at p).pps_tile_row_height_minus1) where
+        module _ (v₀ v : List ℕ) (long : length v₀ ≡ max_tiles) (put : v ≡ sets v₀ 0 (sizes_at p).pps_tile_row_height_minus1) where
           counted : z.rows.count ≡ length (rows_at p)
           unfolding axis_of
           counted = sym (ap (λ (y : TileSizesRead). y.rows.count) S.value)
+
+          few : length (rows_at p) ≤ max_tiles
+          few = rows_few W H p.bytes.now (cursor_of p)
 
           same-length : length v ≡ max_tiles
           same-length = ap length put ∙ length-sets v₀ 0 (rows_at p) ∙ long
 
           pub front : take z.rows.count v ≡ (rows_at p)
           unfolding laid_over
-          front = ap (take z.rows.count) (put ∙ sets_over v₀ (rows_at p) (omega (arith, counted))) ∙ take_at (rows_at p) (drop (length (rows_at p)) v₀) z.rows.count (sym counted)
+          front = ap (take z.rows.count) (put ∙ sets_over v₀ (rows_at p) (omega (arith, few))) ∙ take_at (rows_at p) (drop (length (rows_at p)) v₀) z.rows.count (sym counted)
 
           height_is : z.pic_height.0 ≡ (height_at p)
           height_is = sym (ap (λ (y : TileSizesRead). y.pic_height.0) S.value)
@@ -242,7 +296,7 @@ module _ (W H : ℕ) where
           unfolding axis_of
           spread_ready =
               rw (front, height_is)
-              (omega (arith, same-length), sym (ap (λ (y : TileSizesRead). y.rows.uniform) S.value), rows_fit, rows_sized, omega (arith, same-length, limited.low))
+              (omega (arith, same-length, counted, few), sym (ap (λ (y : TileSizesRead). y.rows.uniform) S.value), rows_fit, rows_sized, omega (arith, same-length, limited.low))
 
           module _ {w : List ℕ} (spread : w ≡ laid_over (axis_sizes (take z.rows.count v) z.pic_height.0) v) where
             laid : w ≡ laid_over (axis_sizes (rows_at p) (height_at p)) v

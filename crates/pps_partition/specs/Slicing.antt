@@ -1,5 +1,7 @@
 -- The block behind its grid (H.266 7.3.2.5): flags, slices, and the last flag.
-use Rattle.std.specs.Prelude.{ℕ, List, Bool, not, ◌&&◌, eqb, ltb, length}
+use Rattle.std.specs.Prelude.{ℕ, List, [], Bool, not, cond, ◌&&◌, eqb, ltb, length}
+use Rattle.bit_reader.specs.declared.Cursor.{Cursor}
+use Rattle.bit_reader.specs.Gives.{Parsed}
 use Rattle.partition.specs.Entry.{first_position}
 use Rattle.partition.specs.Grid.{Grid}
 use Rattle.pps_syntax.specs.PartitionSyntax.{several, coded, rect_flag, slices_minus1}
@@ -9,9 +11,10 @@ use Rattle.syntax.specs.Element.{Element}
 use Rattle.syntax.specs.Elements.{or_else, is_set}
 use Rattle.syntax.proofs.Elements.{flag_if}
 use Rattle.syntax.specs.Lists.{none}
-use Rattle.syntax.specs.Syntax.{Syntax, done, ◌for◌, ◌>>=◌}
+use Rattle.syntax.specs.Syntax.{Syntax, done, parse, ◌for◌, ◌>>=◌}
+use Rattle.pps_slices.specs.Loop.{refused_heights}
 use Rattle.pps_partition.specs.declared.slicing.SlicingRead.{SlicingRead}
-use Rattle.pps_partition.specs.SliceFlags.{flags_kept}
+use Rattle.pps_partition.specs.SliceFlags.{slice_flags, flags_kept}
 
 pub record Slicing : Type 0 where
   pub flags : SliceFlags
@@ -24,6 +27,13 @@ slices_if on g deltas N = or_else on (rect_slices g deltas N first_position) (no
 
 abbrev pub coded_slices : Grid → SliceFlags → Element (List RectSlice)
 coded_slices g f = slices_if (codes f) g (is_set f.pps_tile_idx_delta_present_flag) f.pps_num_slices_in_pic_minus1
+
+-- the explicit slice heights of an entry that is refused; they are in their table before the entry's later tests
+abbrev pub left_if : Bool → Grid → Bool → ℕ → List ℕ → Cursor → List ℕ
+left_if on g deltas N s c = cond on (refused_heights g deltas N first_position s c) []
+
+unfoldable pub coded_left : Grid → SliceFlags → List ℕ → Cursor → List ℕ
+coded_left g f s c = left_if (codes f) g (is_set f.pps_tile_idx_delta_present_flag) f.pps_num_slices_in_pic_minus1 s c
 
 -- pps_loop_filter_across_slices_enabled_flag, unless there is one slice
 abbrev pub across_slices : SliceFlags → Element ℕ
@@ -51,3 +61,9 @@ slicing g = do
 -- what is kept of it beside the tables
 abbrev pub slicing_kept : Slicing → SlicingRead
 slicing_kept r = record { flags = flags_kept r.flags; num_rect_slices = length r.rect_slices; across_slices = r.pps_loop_filter_across_slices_enabled_flag }
+
+-- the heights of a refused entry: those of the slice loop, which stands behind the flags
+unfoldable pub slicing_left : Grid → List ℕ → Cursor → List ℕ
+slicing_left g s c =
+    let f : Parsed SliceFlags = parse (slice_flags (several g)) s c in
+    coded_left g f.value s f.next

@@ -1,14 +1,14 @@
 // The tile and slice partition block of a picture parameter set (the Rust's parse_partition), read into lent tables.
 #![tactic(auto)]
 
-ghost use Rattle.std.specs.Prelude.{◌≡◌, OnOk};
+ghost use Rattle.std.specs.Prelude.{◌≡◌};
 ghost use Rattle.std.proofs.lemmas.List.Edits.{sets};
-ghost use Rattle.bit_reader.specs.Gives.{Gives, held_as, value_read};
+ghost use Rattle.bit_reader.specs.Gives.{Gives, cursor_of, held_as, value_read};
 ghost use Rattle.pps_syntax.specs.PartitionSyntax.{partition};
-ghost use Rattle.pps_syntax.specs.SliceTables.{put_slices};
 ghost use Rattle.pps_tables.specs.Mutable.{slices_before, slices_after};
 ghost use Rattle.syntax.specs.Syntax.{parse};
-ghost use Rattle.pps_partition.specs.PartitionAnswer.{one_block};
+ghost use Rattle.pps_slices.specs.Loop.{slices_left};
+ghost use Rattle.pps_partition.specs.PartitionAnswer.{one_block, partition_left};
 
 use bit_reader::BitReader;
 use pps_record::VvcPpsPartition;
@@ -21,8 +21,8 @@ use tiles::{copy_front, read_tile_sizes, spread, test_axes};
 mod slicing;
 mod tiles;
 
-// The partition block of a picture of so many luma samples; its lists are in their tables. Nothing is read back from
-// the lent tables, so that they may have any length: what has no place in its table is left out.
+// The partition block of a picture of so many luma samples; what was read of its lists before a refusal is in their
+// tables too. The lent tables may have any length: what has no place in its table is left out.
 pub fn read_partition(
     r: &mut BitReader<'_>,
     width: u32,
@@ -33,22 +33,27 @@ pub fn read_partition(
     split_heights: &mut [u32],
 ) -> Result<VvcPpsPartition, Refusal>
     ensures answer { Gives (held_as one_block (parse (partition width height))) r.old r.new result }
-    ensures columns { OnOk result (tile_column_widths.new
+    ensures columns { tile_column_widths.new
         ≡ sets tile_column_widths.old 0
-        (value_read (parse (partition width height)) r.old).pps_tile_column_width_minus1) }
-    ensures rows { OnOk result (tile_row_heights.new
+        (value_read (parse (partition width height)) r.old).pps_tile_column_width_minus1 }
+    ensures rows { tile_row_heights.new
         ≡ sets tile_row_heights.old 0
-        (value_read (parse (partition width height)) r.old).pps_tile_row_height_minus1) }
-    ensures slices { OnOk result (slices_after entries split_heights
-        ≡ put_slices (slices_before entries split_heights) 0 0
-        (value_read (parse (partition width height)) r.old).rect_slices) }
+        (value_read (parse (partition width height)) r.old).pps_tile_row_height_minus1 }
+    ensures slices { slices_after entries split_heights
+        ≡ slices_left (slices_before entries split_heights) 0 0
+        (value_read (parse (partition width height)) r.old).rect_slices
+        (partition_left width height r.old.bytes.now (cursor_of r.old)) }
 {
+    // The grid wants all row heights, and the lent table may be shorter. They are read over a copy of its front, which
+    // goes back there also where reading is refused.
     let mut row_heights = [0u32; MAX_TILES as usize];
-    let sizes = read_tile_sizes(r, width, height, tile_column_widths, &mut row_heights)?;
+    copy_front(tile_row_heights, &mut row_heights);
+    let read = read_tile_sizes(r, width, height, tile_column_widths, &mut row_heights);
+    copy_front(&row_heights, tile_row_heights);
+    let sizes = read?;
     let columns = sizes.columns;
     let rows = sizes.rows;
     test_axes(columns, rows)?;
-    copy_front(&row_heights, rows.count, tile_row_heights);
     spread(&mut row_heights, rows, sizes.pic_height);
     let num_tile_rows = rows.sizes as usize;
     let slicing = read_slicing(

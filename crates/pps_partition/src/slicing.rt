@@ -1,14 +1,14 @@
 // The partition block behind its grid (H.266 7.3.2.5): the flags that say how slices are coded, the slices, the last
 // flag.
-ghost use Rattle.std.specs.Prelude.{◌≤◌, ◌≡◌, OnOk, length, take};
-ghost use Rattle.bit_reader.specs.Gives.{Gives, held_as, value_read};
+ghost use Rattle.std.specs.Prelude.{◌≤◌, ◌≡◌, length, take};
+ghost use Rattle.bit_reader.specs.Gives.{Gives, cursor_of, held_as, value_read};
 ghost use Rattle.partition.specs.Grid.{Grid, max_tiles};
-ghost use Rattle.pps_syntax.specs.SliceTables.{put_slices};
 ghost use Rattle.pps_tables.specs.Mutable.{slices_before, slices_after};
 ghost use Rattle.syntax.specs.Syntax.{parse};
 ghost use Rattle.pps_slices.specs.Grids.{GridHas};
+ghost use Rattle.pps_slices.specs.Loop.{slices_left};
 ghost use Rattle.pps_partition.specs.SliceFlags.{slice_flags, flags_kept};
-ghost use Rattle.pps_partition.specs.Slicing.{slices_if, slicing, slicing_kept};
+ghost use Rattle.pps_partition.specs.Slicing.{slices_if, left_if, slicing, slicing_kept, slicing_left};
 
 use bit_reader::BitReader;
 use pps_fields::fields::{flag_or, ue_at_most_or};
@@ -59,9 +59,10 @@ pub fn read_coded_slices(
     ensures gives { (g : Grid) → GridHas num_tile_columns (take max_tiles row_heights.now) g
         → Gives (held_as length (slices_if coded g deltas_coded n).read) r.old r.new result }
     ensures tables { (g : Grid) → GridHas num_tile_columns (take max_tiles row_heights.now) g
-        → OnOk result (slices_after entries split_heights
-        ≡ put_slices (slices_before entries split_heights) 0 0
-        (value_read (slices_if coded g deltas_coded n).read r.old)) }
+        → slices_after entries split_heights
+        ≡ slices_left (slices_before entries split_heights) 0 0
+        (value_read (slices_if coded g deltas_coded n).read r.old)
+        (left_if coded g deltas_coded n r.old.bytes.now (cursor_of r.old)) }
 {
     if coded {
         read_rect_slices(
@@ -98,8 +99,10 @@ pub fn read_slicing(
     ensures gives { (g : Grid) → GridHas num_tile_columns row_heights.now g
         → Gives (held_as slicing_kept (parse (slicing g))) r.old r.new result }
     ensures tables { (g : Grid) → GridHas num_tile_columns row_heights.now g
-        → OnOk result (slices_after entries split_heights
-        ≡ put_slices (slices_before entries split_heights) 0 0 (value_read (parse (slicing g)) r.old).rect_slices) }
+        → slices_after entries split_heights
+        ≡ slices_left (slices_before entries split_heights) 0 0
+        (value_read (parse (slicing g)) r.old).rect_slices
+        (slicing_left g r.old.bytes.now (cursor_of r.old)) }
 {
     let several = row_heights.len() * num_tile_columns as usize > 1;
     let flags = read_flags(r, several)?;

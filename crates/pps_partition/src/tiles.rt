@@ -1,10 +1,9 @@
 // The front of the partition block (H.266 7.3.2.5, 7.4.3.5): the CTU size, the explicit tile sizes, the tests of the
 // grid.
-ghost use Rattle.std.specs.Prelude.{◌≡◌, ◌≤◌, IfOk, OnOk, length, take};
+ghost use Rattle.std.specs.Prelude.{◌≡◌, ◌≤◌, ◌*◌, ◌++◌, length, take, drop};
 ghost use Rattle.std.proofs.lemmas.List.Edits.{sets};
 ghost use Rattle.tables.specs.Tables.{over};
 ghost use Rattle.bit_reader.specs.Gives.{Gives, held_as, value_read};
-ghost use Rattle.partition.specs.Grid.{max_tiles};
 ghost use Rattle.partition.specs.Sizes.{uniform_size, axis_sizes, Fit};
 ghost use Rattle.syntax.specs.Syntax.{parse};
 ghost use Rattle.pps_partition.specs.GridTests.{axes_tested};
@@ -14,7 +13,6 @@ use bit_reader::BitReader;
 use pps_fields::lists::{AxisRead, read_axis};
 use refusal::Refusal;
 use slice_loop::CtbCount;
-use tables::places::at_most;
 use tile_sizes::{MAX_TILE_COLUMNS, MAX_TILES, in_ctbs, next_size, within_limits};
 
 // The CTU size field, the axes of the grid, and the picture's height.
@@ -26,7 +24,7 @@ pub struct TileSizesRead {
     pub pic_height: CtbCount,
 }
 
-// The explicit tile sizes of a picture of so many luma samples.
+// The explicit tile sizes of a picture of so many luma samples. What was read before a refusal is in the tables.
 pub fn read_tile_sizes(
     r: &mut BitReader<'_>,
     width: u32,
@@ -35,11 +33,10 @@ pub fn read_tile_sizes(
     row_heights: &mut [u32],
 ) -> Result<TileSizesRead, Refusal>
     ensures gives { Gives (held_as (sizes_kept width height) (parse (tile_sizes width height))) r.old r.new result }
-    ensures columns { OnOk result (column_widths.new
+    ensures tables { (column_widths.new
         ≡ sets column_widths.old 0
-        (value_read (parse (tile_sizes width height)) r.old).pps_tile_column_width_minus1) }
-    ensures few { IfOk result (λ t. t.rows.count ≤ max_tiles) }
-    ensures rows { OnOk result (row_heights.new
+        (value_read (parse (tile_sizes width height)) r.old).pps_tile_column_width_minus1)
+        × (row_heights.new
         ≡ sets row_heights.old 0
         (value_read (parse (tile_sizes width height)) r.old).pps_tile_row_height_minus1) }
 {
@@ -99,12 +96,11 @@ pub fn test_axes(columns: AxisRead, rows: AxisRead) -> Result<(), Refusal>
     Ok(())
 }
 
-// The first `count` numbers to the front of a table; those that have no place there are left out.
-pub fn copy_front(from: &[u32], count: u32, to: &mut [u32])
-    requires { count ≤ length from.now }
-    ensures { to.new ≡ sets to.old 0 (take count from.now) }
+// The numbers of a table to the front of another; those that have no place there are left out.
+pub fn copy_front(from: &[u32], to: &mut [u32])
+    ensures { to.new ≡ take (length to.old) from.now ++ drop (length from.now) to.old }
 {
-    let n = at_most(count, to.len());
+    let n = from.len().min(to.len());
     to[..n].copy_from_slice(&from[..n]);
 }
 

@@ -9,7 +9,9 @@ use Rattle.bit_reader.specs.Gives.{Parsed, parsed, cursor_of, Gives, value_read,
 use Rattle.refusal.specs.Numbers.{number}
 use Rattle.bit_reader.specs.Reading.{refusal}
 use Rattle.bit_reader.proofs.Gives.{given, given_back, refuses, refused_back, not-0}
-use Rattle.pps_partition.specs.PartitionAnswer.{one_block}
+use Rattle.pps_slices.specs.Loop.{slices_left}
+use Rattle.pps_partition.specs.PartitionAnswer.{one_block, partition_left}
+use Rattle.pps_partition.proofs.NothingLeft.{slices_accepted}
 use Rattle.pps_record.specs.declared.VvcPpsPartition.{VvcPpsPartition}
 use Rattle.pps_syntax.specs.PartitionSyntax.{PartitionBlock, partition}
 use Rattle.pps_syntax.specs.Record.{partition_record}
@@ -33,9 +35,9 @@ blocks-put b bs c₀ r₀ t₀ e c r t = rw e (refl, record { columns = c; rows 
 
 module _ (W H : ℕ) {p q : BitReader} (c₀ r₀ : List ℕ) (t₀ : SliceTables) (c₁ r₁ : List ℕ) (t₁ : SliceTables) where
   block-there : {x : Result VvcPpsPartition Refusal} → Gives (held_as one_block (parse (partition W H))) p q x
-      → OnOk x (c₁ ≡ sets c₀ 0 (value_read (parse (partition W H)) p).pps_tile_column_width_minus1)
-      → OnOk x (r₁ ≡ sets r₀ 0 (value_read (parse (partition W H)) p).pps_tile_row_height_minus1)
-      → OnOk x (t₁ ≡ put_slices t₀ 0 0 (value_read (parse (partition W H)) p).rect_slices)
+      → c₁ ≡ sets c₀ 0 (value_read (parse (partition W H)) p).pps_tile_column_width_minus1
+      → r₁ ≡ sets r₀ 0 (value_read (parse (partition W H)) p).pps_tile_row_height_minus1
+      → t₁ ≡ slices_left t₀ 0 0 (value_read (parse (partition W H)) p).rect_slices (partition_left W H p.bytes.now (cursor_of p))
       → Gives (held_as blocks_record (blocks_read true W H)) p q x
       × OnOk x ((length (value_read (blocks_read true W H) p) ≡ 1) × BlocksPut (value_read (blocks_read true W H) p) c₀ c₁ r₀ r₁ t₀ t₁)
   unfolding blocks_record
@@ -45,7 +47,7 @@ module _ (W H : ℕ) {p q : BitReader} (c₀ r₀ : List ℕ) (t₀ : SliceTable
       let zero : (parse (partition W H) p.bytes.now (cursor_of p)).next.refused ≡ 0 = ap (λ (y : Parsed VvcPpsPartition). y.next.refused) (sym e) in
       let is : blocks_read true W H p.bytes.now (cursor_of p) ≡ parsed (v ∷ []) (parse (partition W H) p.bytes.now (cursor_of p)).next = of_one W H p.bytes.now (cursor_of p) true (eq-eqb _ 0 zero) in (
         given g.bytes (e ∙ ap (λ (y : Parsed (List PartitionBlock)). parsed (blocks_record y.value) y.next) (sym is)),
-        blocks-put v (value_read (blocks_read true W H) p) c₀ r₀ t₀ (ap (λ (y : Parsed (List PartitionBlock)). y.value) is) c r t,
+        blocks-put v (value_read (blocks_read true W H) p) c₀ r₀ t₀ (ap (λ (y : Parsed (List PartitionBlock)). y.value) is) c r (slices_accepted W H g t₀ t₁ t),
       )
   block-there {x = Err e} g c r t =
       let is : refusal (cursor_of q) (number e) ≡ (parse (partition W H) p.bytes.now (cursor_of p)).next = refused_back g in
@@ -54,9 +56,9 @@ module _ (W H : ℕ) {p q : BitReader} (c₀ r₀ : List ℕ) (t₀ : SliceTable
 
   -- with its condition
   pub block-read : (on : Bool) {x : Result VvcPpsPartition Refusal} → on ≡ true → Gives (held_as one_block (parse (partition W H))) p q x
-      → OnOk x (c₁ ≡ sets c₀ 0 (value_read (parse (partition W H)) p).pps_tile_column_width_minus1)
-      → OnOk x (r₁ ≡ sets r₀ 0 (value_read (parse (partition W H)) p).pps_tile_row_height_minus1)
-      → OnOk x (t₁ ≡ put_slices t₀ 0 0 (value_read (parse (partition W H)) p).rect_slices)
+      → c₁ ≡ sets c₀ 0 (value_read (parse (partition W H)) p).pps_tile_column_width_minus1
+      → r₁ ≡ sets r₀ 0 (value_read (parse (partition W H)) p).pps_tile_row_height_minus1
+      → t₁ ≡ slices_left t₀ 0 0 (value_read (parse (partition W H)) p).rect_slices (partition_left W H p.bytes.now (cursor_of p))
       → Gives (held_as blocks_record (blocks_read on W H)) p q x
       × OnOk x ((length (value_read (blocks_read on W H) p) ≡ one_if on) × BlocksPut (value_read (blocks_read on W H) p) c₀ c₁ r₀ r₁ t₀ t₁)
   block-read true o g c r t = block-there g c r t

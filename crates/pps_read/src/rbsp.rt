@@ -48,7 +48,8 @@ fn read_block(
     )
 }
 
-// The whole set. After a refusal the tables hold what had been read by then.
+// The whole set. After a refusal the tables hold what had been read by then, and of a slice entry that is refused its
+// explicit slice heights (`read_partition`); the caller clears them.
 pub fn read_rbsp(
     s: &[u8],
     subpic_ids: &mut [u32],

@@ -2,14 +2,14 @@ use Rattle.pps_syntax.specs.SliceTables.{slice_tables}
 use Rattle.pps_partition.proofs.Slices.{slices-coded, slices-put, slices-absent, slices-unput}
 use Rattle.pps_partition.proofs.slicing.read_coded_slices.Goals as goal
 
-pub returns-then-coded-clause-gives : goal.returns-then-coded-clause-gives
-returns-then-coded-clause-gives c = λ g h. slices-coded _ g _ _ c.if-coded.true (c.read_rect_slices.ensures.gives g h)
+pub returns-then-coded : goal.returns-then-coded
+returns-then-coded c = record {
+  gives = λ g h. slices-coded _ g _ _ c.if-coded.true (c.read_rect_slices.ensures.gives g h);
+  tables = λ g h. slices-put _ g _ _ c.args.r.now _ _ c.if-coded.true (c.read_rect_slices.ensures.tables g h);
+}
 
-pub returns-then-coded-clause-tables : goal.returns-then-coded-clause-tables
-returns-then-coded-clause-tables c = λ g h. slices-put _ g _ _ c.args.r.now _ _ _ c.if-coded.true (c.read_rect_slices.ensures.tables g h)
-
-pub returns-else-coded-clause-gives : goal.returns-else-coded-clause-gives
-returns-else-coded-clause-gives c = λ g h. slices-absent _ g _ _ c.if-coded.false
-
-pub returns-else-coded-clause-tables : goal.returns-else-coded-clause-tables
-returns-else-coded-clause-tables c = λ g h. slices-unput _ g _ _ c.args.r.now (slice_tables c.args.entries.now c.args.split_heights.now) c.if-coded.false
+pub returns-else-coded : goal.returns-else-coded
+returns-else-coded c = record {
+  gives = λ g h. slices-absent _ g _ _ c.if-coded.false;
+  tables = λ g h. slices-unput _ g _ _ c.args.r.now (slice_tables c.args.entries.now c.args.split_heights.now) c.if-coded.false;
+}
