@@ -1,9 +1,9 @@
 -- How code comes to an entry, part by part, over the numbers that the loop goes by.
-use Rattle.std.specs.Prelude.{ℕ, suc, ◌*◌, min, ◌≡◌, List, Bool, ltb}
+use Rattle.std.specs.Prelude.{ℕ, suc, ◌*◌, min, ◌≡◌, List, Bool, true, cond, ltb}
 use Rattle.std.proofs.Common.{ap, ◌∙◌, arith, lt-ltb}
 use Rattle.bit_writer.specs.Writing.{Writing}
 use Rattle.bit_writer.specs.Stop.{play_on}
-use Rattle.partition.specs.Entry.{Position, tile_row_height, split_coded, last_slice_of, next_tile, next_position}
+use Rattle.partition.specs.Entry.{Position, tile_row_height, split_coded, last_slice_of, next_tile, next_position, tile_after_delta, default_advance}
 use Rattle.partition.specs.Grid.{Grid}
 use Rattle.partition.specs.Walk.{row_height_of, onward}
 use Rattle.slice_loop.specs.declared.SliceLoopCtx.{SliceLoopCtx}
@@ -11,7 +11,6 @@ use Rattle.slice_loop.specs.Loop.{LoopOver, Follows}
 use Rattle.syntax.specs.Syntax.{symbols_for}
 use Rattle.pps_syntax.specs.SliceSyntax.{RectSlice, entry_of, rect_slice, slice_split, slice_move}
 use Rattle.pps_put_slices.specs.Parts.{size_in_tiles, split_symbols, last_in, move_symbols, size_step, split_step, move_step}
-use Rattle.pps_put_slices.specs.Moved.{Moved}
 
 module _ (g : Grid) (ctx : SliceLoopCtx) (rs : List ℕ) (o : LoopOver ctx rs g) (k : Position) (e : RectSlice) where
   abbrev N : ℕ
@@ -63,10 +62,12 @@ module _ (g : Grid) (ctx : SliceLoopCtx) (rs : List ℕ) (o : LoopOver ctx rs g)
           → v ≡ play_on x (symbols_for (slice_move g deltas N k width height e.split_present heights) e)
       move-then x q = q ∙ rw (same, ← o.columns_are, ← o.rows_are) (move_step g deltas N k e x)
 
-      pub followed : {slice tile : ℕ} → Moved ctx.num_tile_columns deltas N last k.tile width height e.pps_tile_idx_delta_val slice tile → Follows N slice tile (onward g deltas k (entry_of e))
+      pub followed : {slice tile : ℕ} → slice ≡ min (suc last) N
+          → (ltb last N ≡ true → tile ≡ cond deltas (tile_after_delta k.tile e.pps_tile_idx_delta_val) (default_advance ctx.num_tile_columns k.tile width height))
+          → Follows N slice tile (onward g deltas k (entry_of e))
       unfolding next_position last_slice_of next_tile
-      followed m =
+      followed p q =
           record {
-            slice_is = m.slice_is ∙ ap (λ (n : ℕ). min (suc n) N) same;
-            tile_is = λ h. rw (o.columns_are) (m.tile_is (ap (λ (n : ℕ). ltb n N) same ∙ lt-ltb (last_in k.slice split row heights) N (omega arith)));
+            slice_is = p ∙ ap (λ (n : ℕ). min (suc n) N) same;
+            tile_is = λ h. rw (o.columns_are) (q (ap (λ (n : ℕ). ltb n N) same ∙ lt-ltb (last_in k.slice split row heights) N (omega arith)));
           }

@@ -6,11 +6,11 @@ use Rattle.bit_writer.specs.Stop.{play_on}
 use Rattle.partition.specs.Entry.{Position}
 use Rattle.partition.specs.Grid.{Grid}
 use Rattle.partition.specs.Walk.{onward}
+use Rattle.slice_loop.specs.declared.LoopPosition.{LoopPosition}
 use Rattle.slice_loop.specs.Loop.{Follows}
 use Rattle.syntax.specs.Syntax.{symbols_for}
 use Rattle.pps_syntax.specs.SliceSyntax.{RectSlice, entry_of, rect_slice}
 use Rattle.pps_tables.specs.declared.RectSliceEntry.{RectSliceEntry}
-use Rattle.pps_put_slices.specs.declared.parts.NextSlice.{NextSlice}
 
 -- an entry by its row, with its split heights
 abbrev pub rect_slice_of : RectSliceEntry → List ℕ → RectSlice
@@ -24,7 +24,7 @@ rect_slice_of e heights =
       pps_tile_idx_delta_val = e.delta;
     }
 
--- From w to v the entry is put; unless that is refused, slice index and tile are those behind it.
-pub record EntryPut (g : Grid) (deltas : Bool) (N : ℕ) (k : Position) (e : RectSlice) (w v : Writing) (r : Result NextSlice Refusal) : Type 0 where
+-- From w to v the entry is put; unless that is refused, the answer is where the next one stands.
+pub record EntryPut (g : Grid) (deltas : Bool) (N : ℕ) (k : Position) (e : RectSlice) (w v : Writing) (r : Result LoopPosition Refusal) : Type 0 where
   pub put : v ≡ play_on w (symbols_for (rect_slice g deltas N k) e)
-  pub follows : IfOk r (λ n. Follows N n.slice.0 n.tile.0 (onward g deltas k (entry_of e)))
+  pub follows : IfOk r (λ n. Follows N n.slice.0 n.tile.0 (onward g deltas k (entry_of e)) × (n.preceding_height ≡ e.pps_slice_height_in_tiles_minus1))

@@ -7,7 +7,7 @@ use Rattle.pps_tables.specs.declared.RectSliceEntry.{RectSliceEntry}
 use Rattle.pps_tables.specs.Rows.{entry_of}
 use Rattle.pps_tables.proofs.Places.{heights_at}
 use Rattle.pps_put_slices.specs.EntryPut.{rect_slice_of, EntryPut}
-use Rattle.pps_put_slices.specs.declared.parts.NextSlice.{NextSlice}
+use Rattle.slice_loop.specs.declared.LoopPosition.{LoopPosition}
 use Rattle.refusal.specs.declared.Refusal.{Refusal}
 use Rattle.bit_writer.specs.Writing.{Writing}
 use Rattle.partition.specs.Entry.{Position}
@@ -32,5 +32,5 @@ module _ (t : SliceTables) (i : ℕ) {e : RectSliceEntry} (row : e ≡ entry_of 
       cases true = let c : e.split_count ≡ split_count_in (row_at t i) = ap (λ (x : RectSliceEntry). x.split_count) row in omega arith
       cases false = omega arith
 
-pub entry_tabled : {g : Grid} {deltas : Bool} {N : ℕ} {k : Position} {e f : RectSlice} {w v : Writing} {r : Result NextSlice Refusal} → e ≡ f → EntryPut g deltas N k e w v r → EntryPut g deltas N k f w v r
+pub entry_tabled : {g : Grid} {deltas : Bool} {N : ℕ} {k : Position} {e f : RectSlice} {w v : Writing} {r : Result LoopPosition Refusal} → e ≡ f → EntryPut g deltas N k e w v r → EntryPut g deltas N k f w v r
 entry_tabled {g} {deltas} {N} {k} {e} {f} {w} {v} {r} q h = subst (λ (x : RectSlice). EntryPut g deltas N k x w v r) q h

@@ -1,10 +1,10 @@
 // The parts of an entry of the slice loop (H.266 7.3.2.5): width and height, explicit slice heights, and the way to
 // the next tile.
-ghost use Rattle.std.specs.Prelude.{◌≡◌, ◌*◌, ◌≤◌, ltb, length, IfOk};
+ghost use Rattle.std.specs.Prelude.{◌≡◌, true, cond, ◌*◌, ◌≤◌, ltb, length, IfOk};
 ghost use Rattle.bit_writer.specs.Stop.{play_on};
 ghost use Rattle.bit_writer.specs.Written.{written, ended};
+ghost use Rattle.partition.specs.Entry.{tile_after_delta, default_advance};
 ghost use Rattle.pps_put_slices.specs.Parts.{size_in_tiles, split_symbols, last_in, move_symbols};
-ghost use Rattle.pps_put_slices.specs.Moved.{Moved};
 
 use super::sizes::{put_size, put_sizes};
 use bit_writer::{BitWriter, test};
@@ -71,14 +71,8 @@ pub fn put_split(
     Ok(SliceIdx(slice.0 + (count - 1)))
 }
 
-// Where the next entry stands.
-#[derive(Clone, Copy)]
-pub struct NextSlice {
-    pub slice: SliceIdx,
-    pub tile: TileIdx,
-}
-
-// pps_tile_idx_delta_val, or the default advance; 26 where the presence flag contradicts, 25, 18, 19.
+// pps_tile_idx_delta_val, or the default advance, and the next slice's tile: the same where no slice is to come; 26
+// where the presence flag contradicts, 25, 18, 19.
 pub fn put_move(
     w: &mut BitWriter,
     out: &mut [u8],
@@ -86,7 +80,7 @@ pub fn put_move(
     tile: TileIdx,
     last: SliceIdx,
     e: RectSliceEntry,
-) -> Result<NextSlice, Refusal>
+) -> Result<TileIdx, Refusal>
     requires { ctx.num_tile_rows * ctx.num_tile_columns ≤ 4294967295 }
     ensures put { let tiles = ctx.num_tile_rows * ctx.num_tile_columns in
         let more = ltb last.0 ctx.num_slices_minus1.0 in
@@ -94,23 +88,22 @@ pub fn put_move(
         ≡ play_on (written w.old out.old)
         (move_symbols ctx.num_tile_columns tiles ctx.delta_present more tile.0
         e.width e.height e.delta_present e.delta) }
-    ensures next { IfOk result (λ next.
-        Moved ctx.num_tile_columns ctx.delta_present ctx.num_slices_minus1.0 last.0 tile.0
-        e.width e.height e.delta next.slice.0 next.tile.0) }
+    ensures tile { IfOk result (λ t. ltb last.0 ctx.num_slices_minus1.0 ≡ true
+        → t.0 ≡ cond ctx.delta_present (tile_after_delta tile.0 e.delta)
+        (default_advance ctx.num_tile_columns tile.0 e.width e.height)) }
 {
     let more = ctx.slices_to_come(last);
     let coded = ctx.delta_present & more;
     test((e.delta_present != 0) == coded, Refusal::Contradiction)?;
-    let slice = ctx.slice_after(last);
     if coded {
         w.put_se(out, e.delta)?;
         let tile = ctx.apply_delta(tile, e.delta)?;
-        return Ok(NextSlice { slice, tile });
+        return Ok(tile);
     }
     if more {
         let tile = ctx.default_advance(tile, e.width, e.height);
         test(ctx.has_tile(tile), Refusal::WalkLeavesGrid)?;
-        return Ok(NextSlice { slice, tile });
+        return Ok(tile);
     }
-    Ok(NextSlice { slice, tile })
+    Ok(tile)
 }

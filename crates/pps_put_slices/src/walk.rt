@@ -12,7 +12,7 @@ use super::entry::put_rect_slice;
 use bit_writer::{BitWriter, test};
 use pps_tables::SliceTables;
 use refusal::Refusal;
-use slice_loop::{SliceIdx, SliceLoopCtx, TileIdx};
+use slice_loop::{LoopPosition, SliceIdx, SliceLoopCtx};
 
 // From tile 0 and slice 0, while the slice index is below N; 26 where `count` is not the number of entries that it
 // takes.
@@ -39,17 +39,14 @@ pub fn put_entries(
         delta_present: deltas_coded,
         num_slices_minus1: n,
     };
-    let mut slice = SliceIdx(0);
-    let mut tile = TileIdx(0);
+    let mut at = LoopPosition::FIRST;
     let mut from: usize = 0;
     for i in 0..count {
-        test(slice.0 < n.0, Refusal::Contradiction)?;
+        test(ctx.slices_to_come(at.slice), Refusal::Contradiction)?;
         let heights = slices.split_heights_of(i, from);
         let e = slices.entry(i);
-        let next = put_rect_slice(w, out, row_heights, ctx, slice, tile, e, heights)?;
-        slice = next.slice;
-        tile = next.tile;
+        at = put_rect_slice(w, out, row_heights, ctx, at, e, heights)?;
         from += heights.len();
     }
-    test(slice.0 >= n.0, Refusal::Contradiction)
+    test(!ctx.slices_to_come(at.slice), Refusal::Contradiction)
 }

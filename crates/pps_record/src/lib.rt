@@ -3,7 +3,7 @@
 // takes all but 0 for 1.
 #![tactic(auto)]
 
-ghost use Rattle.std.specs.Prelude.{◌≡◌};
+ghost use Rattle.std.specs.Prelude.{◌≡◌, ◌&&◌, not, eqb};
 ghost use Rattle.pps_record.specs.Absent.{no_partition};
 ghost use Rattle.pps_record.specs.Ctbs.{ctbs_of};
 
@@ -144,6 +144,13 @@ impl VvcPpsPartition {
         ensures { result ≡ no_partition }
     {
         VvcPpsPartition::default()
+    }
+
+    // Rectangular slices are coded.
+    pub fn slices_coded(&self) -> bool
+        ensures { result ≡ (not (eqb self.now.pps_rect_slice_flag 0) && eqb self.now.pps_single_slice_per_subpic_flag 0) }
+    {
+        self.pps_rect_slice_flag != 0 && self.pps_single_slice_per_subpic_flag == 0
     }
 
     // A length of a picture in CTBs: 9 where a partition has a CTU size field over 2; blocks of 1,024 samples without a

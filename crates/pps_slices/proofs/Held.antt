@@ -14,13 +14,13 @@ use Rattle.bit_reader.proofs.Gives.{given, given_back, refused_back, refuses, no
 use Rattle.partition.specs.Entry.{Position, first_position, next_position}
 use Rattle.partition.specs.Grid.{Grid}
 use Rattle.partition.specs.Walk.{onward}
-use Rattle.slice_loop.specs.Loop.{Follows}
+use Rattle.slice_loop.specs.declared.LoopPosition.{LoopPosition}
+use Rattle.slice_loop.specs.Loop.{Follows, position_of}
 use Rattle.syntax.specs.Syntax.{parse}
 use Rattle.pps_syntax.specs.SliceSyntax.{RectSlice, entry_of, rect_slice, rect_slices}
 use Rattle.pps_syntax.specs.SliceTables.{SliceTables, slice_tables, row_of}
-use Rattle.pps_slices.specs.declared.entry.LoopPosition.{LoopPosition}
 use Rattle.pps_slices.specs.declared.entry.RectSliceRead.{RectSliceRead}
-use Rattle.pps_slices.specs.Entries.{position_of, slice_of, read_row, heights_read, EntryHeld}
+use Rattle.pps_slices.specs.Entries.{slice_of, read_row, heights_read, EntryHeld}
 use Rattle.pps_slices.specs.Loop.{slices_left, refused_from, refused_heights}
 use Rattle.pps_slices.proofs.Turns.{put_slice, left-end, left-more, turns, turns-end, turns_more, turns_stop}
 

@@ -12,12 +12,7 @@ use Rattle.syntax.specs.Elements.{one_if}
 use Rattle.syntax.specs.Syntax.{parse}
 use Rattle.pps_syntax.specs.SliceSyntax.{RectSlice, entry_of, rect_slice}
 use Rattle.pps_syntax.specs.SliceTables.{bits_of_delta}
-use Rattle.pps_slices.specs.declared.entry.LoopPosition.{LoopPosition}
 use Rattle.pps_slices.specs.declared.entry.RectSliceRead.{RectSliceRead}
-
--- the same as the definitions have it
-abbrev pub position_of : LoopPosition → Position
-position_of p = record { slice = p.slice.0; tile = p.tile.0; preceding_height_minus1 = p.preceding_height }
 
 -- an entry that was read, with its explicit slice heights
 abbrev pub slice_of : RectSliceRead → List ℕ → RectSlice

@@ -2,24 +2,16 @@
 ghost use Rattle.std.specs.Prelude.{◌*◌, ◌≤◌, ◌≡◌};
 ghost use Rattle.std.proofs.lemmas.List.Edits.{sets};
 ghost use Rattle.partition.specs.Grid.{Grid};
-ghost use Rattle.pps_slices.specs.Entries.{EntryRead, heights_read, position_of};
-ghost use Rattle.slice_loop.specs.Loop.{LoopOver};
+ghost use Rattle.pps_slices.specs.Entries.{EntryRead, heights_read};
+ghost use Rattle.slice_loop.specs.Loop.{LoopOver, position_of};
 
 use super::parts::{read_height, read_move, read_split, read_width};
 use bit_reader::BitReader;
 use refusal::Refusal;
-use slice_loop::{SliceIdx, SliceLoopCtx, TileIdx};
-
-// Where the slice loop stands: the slice index, its tile, and the height of the preceding slice index.
-#[derive(Clone, Copy)]
-pub struct LoopPosition {
-    pub slice: SliceIdx,
-    pub tile: TileIdx,
-    pub preceding_height: u32,
-}
+use slice_loop::{LoopPosition, SliceLoopCtx};
 
 // An entry, but for its explicit slice heights, which are in their table; and where the next one stands.
-#[derive(Clone, Copy)]
+#[derive(Clone, Copy, PartialEq, Eq, Debug)]
 pub struct RectSliceRead {
     pub width: u32,
     pub height: u32,

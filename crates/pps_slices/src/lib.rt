@@ -13,11 +13,11 @@ ghost use Rattle.pps_slices.specs.Grids.{GridHas};
 ghost use Rattle.pps_slices.specs.Loop.{slices_left, refused_heights};
 
 use bit_reader::BitReader;
-use entry::{LoopPosition, read_rect_slice};
+use entry::read_rect_slice;
 use pps_tables::SliceTablesMut;
 use put::put_slice;
 use refusal::Refusal;
-use slice_loop::{SliceIdx, SliceLoopCtx, TileIdx};
+use slice_loop::{LoopPosition, SliceIdx, SliceLoopCtx};
 use tile_sizes::MAX_TILES;
 
 mod entry;
@@ -44,15 +44,10 @@ fn read_loop(
         r.old.bytes.now (cursor_of r.old)) }
     ensures same_tables { SameSlices tables.old tables.new }
 {
-    let n = ctx.num_slices_minus1;
-    let mut at = LoopPosition {
-        slice: SliceIdx(0),
-        tile: TileIdx(0),
-        preceding_height: 0,
-    };
+    let mut at = LoopPosition::FIRST;
     let mut count: u32 = 0;
     let mut from: usize = 0;
-    while at.slice.0 < n.0 {
+    while ctx.slices_to_come(at.slice) {
         let entry = read_rect_slice(r, row_heights, ctx, at, tables.split_heights, from)?;
         put_slice(entry, count, tables.entries);
         from += entry.split_count.unwrap_or(0) as usize;

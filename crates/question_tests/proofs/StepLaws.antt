@@ -17,7 +17,7 @@ use Rattle.slice_loop.specs.declared.TileIdx.{TileIdx}
 use Rattle.slice_loop.specs.Loop.{position}
 use Rattle.question_tests.specs.Tables.{entry_with}
 use Rattle.question_tests.specs.Steps.{Stepped}
-use Rattle.question_tests.specs.declared.entry.EntryPlace.{EntryPlace}
+use Rattle.slice_loop.specs.declared.LoopPosition.{LoopPosition}
 
 -- a refusal of the first of two lists, and one of the second
 by-left : (cs ds : List Check) (f : Refusal) → number f ≡ number_of (first_bad cs) → number f ≡ number_of (first_bad (cs ++ ds))
@@ -49,7 +49,7 @@ module _ (C R row : ℕ) (d : Bool) (N i t p : ℕ) (e : RectSliceEntry) (hs : L
   abbrev moves : Bool → List Check
   moves more = move_checks C (R * C) d more t entry
 
-  abbrev Steps : Result EntryPlace Refusal → Type 0
+  abbrev Steps : Result LoopPosition Refusal → Type 0
   Steps r = Stepped C R row d N k entry r
 
   numbered-sizes : Numbered sizes

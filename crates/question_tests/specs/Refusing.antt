@@ -13,7 +13,7 @@ use Rattle.partition.specs.Walk.{Walked, refused, placed, after, row_height_of, 
 use Rattle.pps_syntax.specs.SliceTables.{SliceTables, split_count, slices_from}
 use Rattle.pps_syntax.specs.WalkRefusal.{walk_refusal}
 use Rattle.pps_tables.specs.declared.RectSliceEntry.{RectSliceEntry}
-use Rattle.question_tests.specs.declared.entry.EntryPlace.{EntryPlace}
+use Rattle.slice_loop.specs.declared.LoopPosition.{LoopPosition}
 use Rattle.question_tests.specs.Questions.{entries_in}
 use Rattle.slice_loop.specs.Loop.{position}
 use Rattle.question_tests.specs.Steps.{Stepped}
@@ -112,13 +112,13 @@ module _ {g : Grid} {d : Bool} {N : ℕ} {t : SliceTables} {n slice tile precedi
     refusing_late l = sym (H.is ∙ rw next (walk_late g d N H.at (entry_with e hs) _ (omega (arith, H.stands.slice_is))))
 
     module _ (go : slice < N) where
-      abbrev Steps : Result EntryPlace Refusal → Type 0
+      abbrev Steps : Result LoopPosition Refusal → Type 0
       Steps r = Stepped (columns g) (rows g) (row_height_of g tile) d N (position slice tile preceding) (entry_with e hs) r
 
       here : position slice tile preceding ≡ H.at
       here = stands_here H.stands (omega arith)
 
-      counts : (r : Result EntryPlace Refusal) → Steps r → refused_as r ≡ number_of (first_bad (checks_at asking g d N H.at (entry_with e hs)))
+      counts : (r : Result LoopPosition Refusal) → Steps r → refused_as r ≡ number_of (first_bad (checks_at asking g d N H.at (entry_with e hs)))
       counts r S = S.number ∙ ap (λ (k : Position). number_of (first_bad (checks_at asking g d N k (entry_with e hs)))) here
 
       pub refusing_stops : (f : Refusal) → Steps (Err f) → number f ≡ all
@@ -126,7 +126,7 @@ module _ {g : Grid} {d : Bool} {N : ℕ} {t : SliceTables} {n slice tile precedi
       refusing_stops f S =
           sym (H.is ∙ rw next (walk-stops g d N H.at (entry_with e hs) _ (omega (arith, H.stands.slice_is)) (number f) (counts (Err f) S) (λ z. omega (arith, number_above0 f))))
 
-      pub refusing_goes-on : (s : EntryPlace) → Steps (Ok s) → Refusing g d N t n s.slice.0 s.tile.0 s.preceding_height (i + 1) to
+      pub refusing_goes-on : (s : LoopPosition) → Steps (Ok s) → Refusing g d N t n s.slice.0 s.tile.0 s.preceding_height (i + 1) to
       unfolding refused_as
       refusing_goes-on s S =
           record {

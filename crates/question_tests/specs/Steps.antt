@@ -11,7 +11,7 @@ use Rattle.pps_tables.specs.declared.RectSliceEntry.{RectSliceEntry}
 use Rattle.pps_tables.specs.Parameters.{Numbers}
 use Rattle.slice_loop.specs.declared.TileIdx.{TileIdx}
 use Rattle.slice_loop.specs.Answers.{tile_idx_of, next_by_delta}
-use Rattle.question_tests.specs.declared.entry.EntryPlace.{EntryPlace}
+use Rattle.slice_loop.specs.declared.LoopPosition.{LoopPosition}
 
 -- the columns and rows lent to a function
 abbrev pub grid_before : Numbers → Numbers → Grid
@@ -30,7 +30,7 @@ heights_checks split row_height hs =
     ∷ []
 
 -- A step over an entry: its refusal, or where the next one stands; the tile counts while there are slices to come.
-pub record Stepped (columns rows row_height : ℕ) (deltas : Bool) (N : ℕ) (k : Position) (e : Entry) (r : Result EntryPlace Refusal) : Type 0 where
+pub record Stepped (columns rows row_height : ℕ) (deltas : Bool) (N : ℕ) (k : Position) (e : Entry) (r : Result LoopPosition Refusal) : Type 0 where
   pub number : refused r ≡ number_of (first_bad (entry_checks asking columns rows row_height deltas N k e))
   pub next : IfOk r (λ s.
       (s.slice.0 ≡ (next_position columns deltas row_height k e).slice)

@@ -7,30 +7,14 @@ ghost use Rattle.refusal.specs.Numbers.{refused};
 ghost use Rattle.partition.specs.Checks.{first_bad, number_of};
 ghost use Rattle.partition.specs.Entry.{asking, split_coded, num_slices_in_tile, last_slice_of, tile_row_height, size_checks, inherited_checks, split_checks, move_checks, next_tile};
 ghost use Rattle.partition.specs.Grid.{max_slices_minus1};
-ghost use Rattle.slice_loop.specs.Loop.{position};
+ghost use Rattle.slice_loop.specs.Loop.{position_of};
 ghost use Rattle.question_tests.specs.Tables.{entry_with};
 ghost use Rattle.question_tests.specs.Steps.{heights_checks, Stepped};
 
 use pps_tables::RectSliceEntry;
 use refusal::Refusal;
-use slice_loop::{CtbCount, SliceIdx, SliceLoopCtx, TileIdx};
+use slice_loop::{CtbCount, LoopPosition, SliceIdx, SliceLoopCtx, TileIdx};
 use tile_sizes::{num_slices_in_tile, some_at_least};
-
-// Where an entry stands.
-#[derive(Clone, Copy, PartialEq, Eq, Debug)]
-pub struct EntryPlace {
-    pub slice: SliceIdx,
-    pub tile: TileIdx,
-    pub preceding_height: u32,
-}
-
-impl EntryPlace {
-    pub const FIRST: EntryPlace = EntryPlace {
-        slice: SliceIdx(0),
-        tile: TileIdx(0),
-        preceding_height: 0,
-    };
-}
 
 // The slice stays in the grid (15).
 fn size_refusal(ctx: SliceLoopCtx, tile: TileIdx, e: RectSliceEntry) -> Result<(), Refusal>
@@ -44,10 +28,9 @@ fn size_refusal(ctx: SliceLoopCtx, tile: TileIdx, e: RectSliceEntry) -> Result<(
 }
 
 // An uncoded height is the inherited one (26).
-fn inherited_refusal(ctx: SliceLoopCtx, at: EntryPlace, e: RectSliceEntry) -> Result<(), Refusal>
-    ensures { let k = position at.slice.0 at.tile.0 at.preceding_height in
-        ((hs : List ℕ) → refused result ≡ number_of (first_bad (inherited_checks asking ctx.num_tile_columns
-        ctx.num_tile_rows ctx.delta_present k (entry_with e hs)))) }
+fn inherited_refusal(ctx: SliceLoopCtx, at: LoopPosition, e: RectSliceEntry) -> Result<(), Refusal>
+    ensures { (hs : List ℕ) → refused result ≡ number_of (first_bad (inherited_checks asking ctx.num_tile_columns
+        ctx.num_tile_rows ctx.delta_present (position_of at) (entry_with e hs))) }
 {
     let coded = ctx.height_coded(at.tile);
     if !coded && e.height != ctx.inherited_height(at.tile, at.preceding_height) {
@@ -131,24 +114,23 @@ fn move_refusal(
 pub fn entry_step(
     ctx: SliceLoopCtx,
     row_heights: &[u32],
-    at: EntryPlace,
+    at: LoopPosition,
     e: RectSliceEntry,
     heights: &[u32],
-) -> Result<EntryPlace, Refusal>
+) -> Result<LoopPosition, Refusal>
     requires { (ctx.num_tile_rows * ctx.num_tile_columns ≤ 4294967295)
         × (ctx.num_slices_minus1.0 ≤ max_slices_minus1) }
     ensures { let row = tile_row_height row_heights.now ctx.num_tile_columns at.tile.0 in
-        let k = position at.slice.0 at.tile.0 at.preceding_height in
         Stepped ctx.num_tile_columns ctx.num_tile_rows row ctx.delta_present
-        ctx.num_slices_minus1.0 k (entry_with e heights.now) result }
+        ctx.num_slices_minus1.0 (position_of at) (entry_with e heights.now) result }
 {
     let row = ctx.row_height(row_heights, at.tile);
     size_refusal(ctx, at.tile, e)?;
     inherited_refusal(ctx, at, e)?;
     let slices = split_refusal(ctx, at.slice, row, e, heights)?;
     let slice = SliceIdx(at.slice.0 + slices);
-    let tile = move_refusal(ctx, at.tile, slice.0 <= ctx.num_slices_minus1.0, e)?;
-    Ok(EntryPlace {
+    let tile = move_refusal(ctx, at.tile, ctx.has_slice(slice), e)?;
+    Ok(LoopPosition {
         slice,
         tile,
         preceding_height: e.height,

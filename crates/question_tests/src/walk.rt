@@ -9,10 +9,10 @@ ghost use Rattle.pps_tables.specs.Lent.{slices_of};
 ghost use Rattle.question_tests.specs.Questions.{entries_in};
 ghost use Rattle.question_tests.specs.Steps.{grid_before};
 
-use super::entry::{EntryPlace, entry_step};
+use super::entry::entry_step;
 use pps_tables::SliceTables;
 use refusal::Refusal;
-use slice_loop::{SliceIdx, SliceLoopCtx};
+use slice_loop::{LoopPosition, SliceIdx, SliceLoopCtx};
 
 // The tests of the slice loop over `count` entries.
 pub fn walk_refusal(
@@ -35,17 +35,17 @@ pub fn walk_refusal(
         delta_present: deltas_on,
         num_slices_minus1: n,
     };
-    let mut at = EntryPlace::FIRST;
+    let mut at = LoopPosition::FIRST;
     let mut from: usize = 0;
     for i in 0..count {
-        if at.slice.0 >= n.0 {
+        if !ctx.slices_to_come(at.slice) {
             return Err(Refusal::Contradiction);
         }
         let heights = slices.split_heights_of(i, from);
         at = entry_step(ctx, row_heights, at, slices.entry(i), heights)?;
         from += heights.len();
     }
-    if at.slice.0 < n.0 {
+    if ctx.slices_to_come(at.slice) {
         return Err(Refusal::Contradiction);
     }
     Ok(())

@@ -2,6 +2,7 @@
 use Rattle.std.specs.Prelude.{ℕ, ◌<◌, min, ◌≡◌, List}
 use Rattle.partition.specs.Entry.{Position}
 use Rattle.partition.specs.Grid.{Grid, columns, rows}
+use Rattle.slice_loop.specs.declared.LoopPosition.{LoopPosition}
 use Rattle.slice_loop.specs.declared.SliceLoopCtx.{SliceLoopCtx}
 
 -- a grid of so many columns and rows, of these heights
@@ -12,6 +13,10 @@ pub record LoopOver (ctx : SliceLoopCtx) (row_heights : List ℕ) (g : Grid) : T
 
 abbrev pub position : ℕ → ℕ → ℕ → Position
 position slice tile preceding = record { slice = slice; tile = tile; preceding_height_minus1 = preceding }
+
+-- a place of the loop, as the definitions have it
+abbrev pub position_of : LoopPosition → Position
+position_of p = position p.slice.0 p.tile.0 p.preceding_height
 
 -- slice index and tile are those of a position, as far as the loop goes: a slice index is held to N, and behind the last entry there is no tile
 pub record Follows (N slice tile : ℕ) (p : Position) : Type 0 where

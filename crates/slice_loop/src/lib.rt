@@ -2,21 +2,29 @@
 // out of the grid.
 #![tactic(auto)]
 
-ghost use Rattle.std.specs.Prelude.{◌≡◌, suc, ◌+◌, ◌-◌, ◌*◌, min, ltb};
+ghost use Rattle.std.specs.Prelude.{◌≡◌, suc, ◌+◌, ◌-◌, ◌*◌, min, leb, ltb};
 ghost use Rattle.partition.specs.Entry.{tile_x, tile_y, in_last_row, width_coded, height_coded, inherited_height, split_coded, tile_row_height, default_advance, delta_uncodable};
 ghost use Rattle.slice_loop.specs.Answers.{tile_idx_of, next_by_delta};
 
 use refusal::Refusal;
 
 // A tile's index, a slice's index and a count of CTBs: none can stand in for another.
-#[derive(Clone, Copy, PartialEq, Eq, Debug)]
+#[derive(Clone, Copy, PartialEq, Eq, PartialOrd, Ord, Debug)]
 pub struct TileIdx(pub u32);
 
-#[derive(Clone, Copy, PartialEq, Eq, Debug)]
+#[derive(Clone, Copy, PartialEq, Eq, PartialOrd, Ord, Debug)]
 pub struct SliceIdx(pub u32);
 
-#[derive(Clone, Copy, PartialEq, Eq, Debug)]
+#[derive(Clone, Copy, PartialEq, Eq, PartialOrd, Ord, Debug)]
 pub struct CtbCount(pub u32);
+
+// Where the slice loop stands: the slice index, its tile, and the height of the preceding slice index.
+#[derive(Clone, Copy, PartialEq, Eq, Debug)]
+pub struct LoopPosition {
+    pub slice: SliceIdx,
+    pub tile: TileIdx,
+    pub preceding_height: u32,
+}
 
 // What the slice loop goes by, the row heights being lent beside it.
 #[derive(Clone, Copy, PartialEq, Eq, Debug)]
@@ -44,12 +52,20 @@ impl TileIdx {
     }
 }
 
+impl LoopPosition {
+    pub const FIRST: LoopPosition = LoopPosition {
+        slice: SliceIdx(0),
+        tile: TileIdx(0),
+        preceding_height: 0,
+    };
+}
+
 impl SliceLoopCtx {
     // NumTilesInPic.
     pub fn num_tiles(self) -> u64
         ensures { result ≡ self.num_tile_rows * self.num_tile_columns }
     {
-        self.num_tile_rows as u64 * self.num_tile_columns as u64
+        u64::from(self.num_tile_rows) * u64::from(self.num_tile_columns)
     }
 
     // The tile is one of the grid's.
@@ -57,7 +73,7 @@ impl SliceLoopCtx {
         ensures { result ≡ ltb tile_idx.0 (self.num_tile_rows * self.num_tile_columns) }
     {
         let tiles = self.num_tiles();
-        (tile_idx.0 as u64) < tiles
+        u64::from(tile_idx.0) < tiles
     }
 
     #[tactic(auto, unfolding(partition::specs::Entry::tile_x, partition::specs::Entry::tile_y))]
@@ -77,7 +93,7 @@ impl SliceLoopCtx {
         ensures { result ≡ in_last_row self.num_tile_columns self.num_tile_rows tile_idx.0 }
     {
         let p = self.place(tile_idx);
-        p.y as u64 + 1 == self.num_tile_rows as u64
+        u64::from(p.y) + 1 == u64::from(self.num_tile_rows)
     }
 
     // The 7.3.2.5 presence condition of pps_slice_width_in_tiles_minus1.
@@ -86,7 +102,7 @@ impl SliceLoopCtx {
         ensures { result ≡ width_coded self.num_tile_columns tile_idx.0 }
     {
         let p = self.place(tile_idx);
-        p.x as u64 + 1 != self.num_tile_columns as u64
+        u64::from(p.x) + 1 != u64::from(self.num_tile_columns)
     }
 
     // The 7.3.2.5 presence condition of pps_slice_height_in_tiles_minus1.
@@ -141,21 +157,28 @@ impl SliceLoopCtx {
     pub fn exp_block(w_m1: u32, h_m1: u32, row_height: CtbCount) -> bool
         ensures { result ≡ split_coded w_m1 h_m1 row_height.0 }
     {
-        w_m1 == 0 && h_m1 == 0 && row_height.0 > 1
+        w_m1 == 0 && h_m1 == 0 && row_height > CtbCount(1)
+    }
+
+    // There is a slice of this index.
+    pub fn has_slice(self, slice_idx: SliceIdx) -> bool
+        ensures { result ≡ leb slice_idx.0 self.num_slices_minus1.0 }
+    {
+        slice_idx <= self.num_slices_minus1
     }
 
     // Slices are still to come after this index.
     pub fn slices_to_come(self, slice_idx: SliceIdx) -> bool
         ensures { result ≡ ltb slice_idx.0 self.num_slices_minus1.0 }
     {
-        slice_idx.0 < self.num_slices_minus1.0
+        slice_idx < self.num_slices_minus1
     }
 
     // So many slices from this index on are more than there can be (17).
     pub fn too_many_slices(self, first: SliceIdx, count: u32) -> bool
         ensures { result ≡ ltb self.num_slices_minus1.0 (first.0 + count - 1) }
     {
-        self.num_slices_minus1.0 as u64 + 1 < first.0 as u64 + count as u64
+        u64::from(self.num_slices_minus1.0) + 1 < u64::from(first.0) + u64::from(count)
     }
 
     // The slice index behind an entry's last slice, held to N.
@@ -170,12 +193,12 @@ impl SliceLoopCtx {
     pub fn default_advance(self, tile_idx: TileIdx, w_m1: u32, h_m1: u32) -> TileIdx
         ensures { result ≡ tile_idx_of (default_advance self.num_tile_columns tile_idx.0 w_m1 h_m1) }
     {
-        let columns = self.num_tile_columns as u64;
-        let next = tile_idx.0 as u64 + w_m1 as u64 + 1;
+        let columns = u64::from(self.num_tile_columns);
+        let next = u64::from(tile_idx.0) + u64::from(w_m1) + 1;
         if !next.is_multiple_of(columns) {
             return TileIdx::held(next);
         }
-        let down = h_m1 as u64 * columns;
+        let down = u64::from(h_m1) * columns;
         TileIdx::held(next.saturating_add(down))
     }
 
@@ -194,7 +217,7 @@ impl SliceLoopCtx {
         let tiles = self.num_tiles();
         let size = delta.unsigned_abs();
         match (tile_idx.0 as u64).checked_add_signed(delta as i64) {
-            Some(to) if size != 0 && (size as u64) < tiles && to < tiles => Ok(TileIdx::held(to)),
+            Some(to) if size != 0 && u64::from(size) < tiles && to < tiles => Ok(TileIdx::held(to)),
             _ => Err(Refusal::TileIdxDelta),
         }
     }

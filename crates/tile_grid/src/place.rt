@@ -19,7 +19,7 @@ use super::stack::stack;
 use pps_record::VvcPpsPartition;
 use pps_tables::SliceTables;
 use question_tests::tiles::next_tile;
-use slice_loop::{CtbCount, SliceIdx, SliceLoopCtx, TileIdx};
+use slice_loop::{CtbCount, LoopPosition, SliceIdx, SliceLoopCtx};
 
 // The slices of a group, from tables of where columns and rows begin.
 fn place_group(
@@ -88,39 +88,44 @@ pub fn place_slices(
         num_slices_minus1: n,
     };
     let mut placed = Placed::NONE;
-    let mut slice = SliceIdx(0);
-    let mut tile = TileIdx(0);
+    let mut at = LoopPosition::FIRST;
     let mut from: usize = 0;
     for i in 0..count {
         let e = tables.entry(i);
         let heights = tables.split_heights_of(i, from);
-        let at = ctx.place(tile);
+        let corner = ctx.place(at.tile);
         let group = TileGroup {
-            x: at.x,
-            y: at.y,
+            x: corner.x,
+            y: corner.y,
             columns: e.width + 1,
             rows: e.height + 1,
         };
         placed.groups[i as usize] = group;
-        slice = place_group(
+        let slice = place_group(
             column_starts,
             row_starts,
             group,
             heights,
             &mut placed.plan.slices,
-            slice,
+            at.slice,
         );
-        tile = next_tile(ctx, tile, e);
+        let tile = next_tile(ctx, at.tile, e);
+        at = LoopPosition {
+            slice,
+            tile,
+            preceding_height: e.height,
+        };
         from += heights.len();
     }
     placed.num_groups = count;
-    if slice.0 <= n.0 {
-        let at = ctx.place(tile);
+    let mut slice = at.slice;
+    if ctx.has_slice(slice) {
+        let corner = ctx.place(at.tile);
         let group = TileGroup {
-            x: at.x,
-            y: at.y,
-            columns: ctx.columns_left(tile),
-            rows: ctx.rows_left(tile),
+            x: corner.x,
+            y: corner.y,
+            columns: ctx.columns_left(at.tile),
+            rows: ctx.rows_left(at.tile),
         };
         placed.groups[count as usize] = group;
         slice = place_group(

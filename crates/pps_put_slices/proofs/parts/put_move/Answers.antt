@@ -42,13 +42,10 @@ returns-then-coded-clause-put c =
     by-delta _ _ _ _ _ _ _ _ _ _ c.slices_to_come-more.ensures _ c.if-coded.true (c.in_ok-test.ensures.put _ _)
     (on_then _ _ _ (rw d at c.in_ok-put_se.ensures) (delta-fine _ _ _ _ (rw d at c.in_ok-tile.ensures) _))
 
-pub returns-then-coded-clause-next : goal.returns-then-coded-clause-next
-returns-then-coded-clause-next c =
-    let d = delta-kept (goal.at.returns-then-coded-clause-next c).Then-coded in
-    record {
-      slice_is = c.slice_after-slice.ensures;
-      tile_is = λ h. tile-by _ (c.args.ctx.num_tile_rows * c.args.ctx.num_tile_columns) _ _ _ _ _ _ c.args.e.delta_present _ c.slices_to_come-more.ensures c.if-coded.true (delta-moved _ _ _ _ (rw d at c.in_ok-tile.ensures) c.requires);
-    }
+pub returns-then-coded-clause-tile : goal.returns-then-coded-clause-tile
+returns-then-coded-clause-tile c = λ h.
+    let d = delta-kept (goal.at.returns-then-coded-clause-tile c).Then-coded in
+    tile-by _ (c.args.ctx.num_tile_rows * c.args.ctx.num_tile_columns) _ _ _ _ _ _ c.args.e.delta_present _ c.slices_to_come-more.ensures c.if-coded.true (delta-moved _ _ _ _ (rw d at c.in_ok-tile.ensures) c.requires)
 
 pub returns-in_err-test-2-clause-put : goal.returns-in_err-test-2-clause-put
 unfolding number
@@ -62,12 +59,9 @@ returns-then-more-clause-put c =
     on-walk _ _ _ _ _ _ _ _ _ _ c.slices_to_come-more.ensures _ c.requires c.if-coded.false c.if-more.true (c.in_ok-test.ensures.put _ _) c.default_advance-tile.ensures c.has_tile.ensures
     (c.in_ok-test-2.ensures.put _ _)
 
-pub returns-then-more-clause-next : goal.returns-then-more-clause-next
-returns-then-more-clause-next c =
-    record {
-      slice_is = c.slice_after-slice.ensures;
-      tile_is = λ h. tile-on _ _ _ _ _ _ _ _ c.args.e.delta_present _ c.slices_to_come-more.ensures c.requires c.if-coded.false c.if-more.true c.default_advance-tile.ensures c.has_tile.ensures c.in_ok-test-2.ensures.passed;
-    }
+pub returns-then-more-clause-tile : goal.returns-then-more-clause-tile
+returns-then-more-clause-tile c = λ h.
+    tile-on _ _ _ _ _ _ _ _ c.args.e.delta_present _ c.slices_to_come-more.ensures c.requires c.if-coded.false c.if-more.true c.default_advance-tile.ensures c.has_tile.ensures c.in_ok-test-2.ensures.passed
 
 pub returns-clause-put : goal.returns-clause-put
 unfolding number

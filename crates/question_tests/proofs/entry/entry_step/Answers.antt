@@ -26,10 +26,10 @@ unfolding refused
 returns-in_err-tile c =
     let p = err_from_is_err_and c.from_residual-in_err-tile.result c.from_residual-in_err-tile.ensures.1 in
     rw (p.1, p.2, ← c.row_height-row.ensures)
-    (by-moves _ _ _ _ _ _ _ _ c.args.e _ (c.in_ok-size_refusal.ensures _) (c.in_ok-inherited_refusal.ensures _) c.in_ok-slices.ensures.number _ c.in_ok-slices.ensures.slices _ (c.in_err-tile.ensures.number _))
+    (by-moves _ _ _ _ _ _ _ _ c.args.e _ (c.in_ok-size_refusal.ensures _) (c.in_ok-inherited_refusal.ensures _) c.in_ok-slices.ensures.number _ c.in_ok-slices.ensures.slices _ (rw c.has_slice.ensures at (c.in_err-tile.ensures.number c.args.heights.now)))
 
 pub returns : goal.returns
 unfolding refused
 returns c =
     rw (← c.row_height-row.ensures)
-    (steps _ _ _ _ _ _ _ _ c.args.e _ (c.in_ok-size_refusal.ensures _) (c.in_ok-inherited_refusal.ensures _) c.in_ok-slices.ensures.number _ c.in_ok-slices.ensures.slices _ (c.in_ok-tile.ensures.number _) (c.in_ok-tile.ensures.tile _))
+    (steps _ _ _ _ _ _ _ _ c.args.e _ (c.in_ok-size_refusal.ensures _) (c.in_ok-inherited_refusal.ensures _) c.in_ok-slices.ensures.number _ c.in_ok-slices.ensures.slices _ (rw c.has_slice.ensures at (c.in_ok-tile.ensures.number c.args.heights.now)) (rw c.has_slice.ensures at (c.in_ok-tile.ensures.tile c.args.heights.now)))

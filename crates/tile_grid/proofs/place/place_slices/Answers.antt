@@ -1,10 +1,11 @@
-use mathlib.Core.Path.{ap, refl, ◌∙◌}
+use mathlib.Core.Path.{ap, refl, sym, ◌∙◌}
+use borrow.Author.Tests.{leb-true, leb-false}
 use native.Mathlib.Omega.{arith}
 use Rattle.tile_grid.specs.Placing.{placing_begins, placing_wide, placing_tall, placing_room, placing_fits, placing_goes-on, plan_length, last_fits, with_last, without-last, all_placed, blank-long}
 use Rattle.slice_loop.specs.declared.TileIdx.{TileIdx}
 use Rattle.tile_grid.specs.Starts.{tiles-small}
 use Rattle.tile_grid.proofs.place.place_slices.Goals as goal
-use Rattle.tile_grid.proofs.place.place_slices.Goals.{then-slice-n, else-slice-n}
+use Rattle.tile_grid.proofs.place.place_slices.Goals.{then-has_slice, else-has_slice}
 
 pub loop-i-init : goal.loop-i-init
 loop-i-init c = placing_begins _ _ _ _ _ _ _ _ c.requires.4.0 c.requires.4.1 c.requires.2
@@ -20,19 +21,19 @@ bounds-placed-i c = omega (arith, placing_room c.loop-i.invariant c.loop-i-test.
 
 pub place_group-slice-requires : goal.place_group-slice-requires
 place_group-slice-requires c =
-    let f = placing_fits c.loop-i.invariant c.loop-i-test.true _ _ c.entry-e.ensures c.split_heights_of-heights.ensures c.requires.0 c.requires.1 _ _ c.place-at.ensures.0 c.place-at.ensures.1 c.requires.3 in
+    let f = placing_fits c.loop-i.invariant c.loop-i-test.true _ _ c.entry-e.ensures c.split_heights_of-heights.ensures c.requires.0 c.requires.1 _ _ c.place-corner.ensures.0 c.place-corner.ensures.1 c.requires.3 in
     (f.0, f.1, f.2, f.3, f.4, f.5, f.6, f.7, f.8, plan_length c.loop-i.invariant ∙ blank-long)
 
 pub loop-i-preserved : goal.loop-i-preserved
-loop-i-preserved c = placing_goes-on c.loop-i.invariant c.loop-i-test.true _ _ c.entry-e.ensures c.split_heights_of-heights.ensures c.requires.0 c.requires.1 _ _ c.place-at.ensures.0 c.place-at.ensures.1 _ c.place_group-slice.ensures.next _ c.place_group-slice.ensures.slices _ (ap (λ (u : TileIdx). u.0) c.next_tile-tile.ensures) (tiles-small c.requires.0 c.requires.1)
+loop-i-preserved c = placing_goes-on c.loop-i.invariant c.loop-i-test.true _ _ c.entry-e.ensures c.split_heights_of-heights.ensures c.requires.0 c.requires.1 _ _ c.place-corner.ensures.0 c.place-corner.ensures.1 _ c.place_group-slice.ensures.next _ c.place_group-slice.ensures.slices _ (ap (λ (u : TileIdx). u.0) c.next_tile-tile.ensures) (tiles-small c.requires.0 c.requires.1)
 
-pub place_group-slice-requires-then-slice-n : goal.place_group-slice-requires-then-slice-n
-place_group-slice-requires-then-slice-n c =
-    let f = last_fits c.loop-i.invariant c.loop-i-test.false c.if-slice-n.true c.requires.0 c.requires.1 _ _ _ _ c.place-at-then-slice-n.ensures.0 c.place-at-then-slice-n.ensures.1 c.columns_left.ensures c.rows_left.ensures _ refl c.requires.3 in
+pub place_group-slice-requires-then-has_slice : goal.place_group-slice-requires-then-has_slice
+place_group-slice-requires-then-has_slice c =
+    let f = last_fits c.loop-i.invariant c.loop-i-test.false (leb-true _ _ (sym c.if-has_slice.ensures)) c.requires.0 c.requires.1 _ _ _ _ c.place-corner-then-has_slice.ensures.0 c.place-corner-then-has_slice.ensures.1 c.columns_left.ensures c.rows_left.ensures _ refl c.requires.3 in
     (f.0, f.1, f.2, f.3, f.4, f.5, f.6, f.7, f.8, plan_length c.loop-i.invariant ∙ blank-long)
 
 pub returns : goal.returns
-returns c = elim c.if-slice-n.branch [
-  | then-slice-n w ↦ rw (w.placed-is, w.slice-is) (all_placed (with_last c.loop-i.invariant c.loop-i-test.false w.if-slice-n.true c.requires.0 c.requires.1 _ _ _ _ w.place-at-then-slice-n.ensures.0 w.place-at-then-slice-n.ensures.1 w.columns_left.ensures w.rows_left.ensures _ refl _ w.place_group-slice-then-slice-n.ensures.next _ w.place_group-slice-then-slice-n.ensures.slices) c.requires.3)
-  | else-slice-n w ↦ rw (w.placed-is, w.slice-is) (all_placed (without-last c.loop-i.invariant c.loop-i-test.false (omega (arith, w.if-slice-n.false))) c.requires.3)
+returns c = elim c.if-has_slice.branch [
+  | then-has_slice w ↦ rw (w.placed-is, w.slice-is) (all_placed (with_last c.loop-i.invariant c.loop-i-test.false (leb-true _ _ (sym w.if-has_slice.ensures)) c.requires.0 c.requires.1 _ _ _ _ w.place-corner-then-has_slice.ensures.0 w.place-corner-then-has_slice.ensures.1 w.columns_left.ensures w.rows_left.ensures _ refl _ w.place_group-slice-then-has_slice.ensures.next _ w.place_group-slice-then-has_slice.ensures.slices) c.requires.3)
+  | else-has_slice w ↦ rw (w.placed-is, w.slice-is) (all_placed (without-last c.loop-i.invariant c.loop-i-test.false (omega (arith, leb-false _ _ (sym w.if-has_slice.ensures)))) c.requires.3)
 ]
