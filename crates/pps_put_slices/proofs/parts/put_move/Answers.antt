@@ -10,6 +10,10 @@ use Rattle.bit_writer.specs.Stop.{on_then}
 use Rattle.bit_writer.proofs.Ended.{at_err, stopped_at}
 use Rattle.pps_put_slices.proofs.MovePut.{delta-refused, delta-fine, delta-moved, by-delta, on-walk, at-end, contradicted, tile-by, tile-on}
 use Rattle.pps_put_slices.proofs.parts.put_move.Goals as goal
+use Rattle.pps_put_slices.proofs.parts.put_move.Goals.{Then-coded}
+
+delta-kept : (c : Then-coded) → to_z w32 (of_z w32 c.args.e.delta) ≡ c.args.e.delta
+delta-kept c = let f : SFits w32 c.args.e.delta = search rules in to_z-of_z f
 
 pub returns-in_err-test-clause-put : goal.returns-in_err-test-clause-put
 unfolding number
@@ -19,16 +23,14 @@ returns-in_err-test-clause-put c =
 pub returns-in_err-put_se-clause-put : goal.returns-in_err-put_se-clause-put
 unfolding number
 returns-in_err-put_se-clause-put c =
-    let f : SFits w32 c.args.e.delta = search rules in
-    let d : to_z w32 (of_z w32 c.args.e.delta) ≡ c.args.e.delta = to_z-of_z f in
+    let d = delta-kept (goal.at.returns-in_err-put_se-clause-put c).Then-coded in
     by-delta _ _ _ _ _ _ _ _ _ _ c.slices_to_come-more.ensures _ c.if-coded.true (c.in_ok-test.ensures.put _ _)
     (on_then _ _ _ (rw d at c.in_err-put_se.ensures) (stopped_at _ _ _ _ _ c.from_residual-in_err-put_se.ensures.1))
 
 pub returns-in_err-tile-clause-put : goal.returns-in_err-tile-clause-put
 unfolding number
 returns-in_err-tile-clause-put c =
-    let f : SFits w32 c.args.e.delta = search rules in
-    let d : to_z w32 (of_z w32 c.args.e.delta) ≡ c.args.e.delta = to_z-of_z f in
+    let d = delta-kept (goal.at.returns-in_err-tile-clause-put c).Then-coded in
     by-delta _ _ _ _ _ _ _ _ _ _ c.slices_to_come-more.ensures _ c.if-coded.true (c.in_ok-test.ensures.put _ _)
     (on_then _ _ _ (rw d at c.in_ok-put_se.ensures)
     (at_err _ _ _ _ c.from_residual-in_err-tile.ensures.1 ∙ delta-refused _ _ _ _ _ refl (rw d at c.in_err-tile.ensures)))
@@ -36,15 +38,13 @@ returns-in_err-tile-clause-put c =
 pub returns-then-coded-clause-put : goal.returns-then-coded-clause-put
 unfolding number
 returns-then-coded-clause-put c =
-    let f : SFits w32 c.args.e.delta = search rules in
-    let d : to_z w32 (of_z w32 c.args.e.delta) ≡ c.args.e.delta = to_z-of_z f in
+    let d = delta-kept (goal.at.returns-then-coded-clause-put c).Then-coded in
     by-delta _ _ _ _ _ _ _ _ _ _ c.slices_to_come-more.ensures _ c.if-coded.true (c.in_ok-test.ensures.put _ _)
     (on_then _ _ _ (rw d at c.in_ok-put_se.ensures) (delta-fine _ _ _ _ (rw d at c.in_ok-tile.ensures) _))
 
 pub returns-then-coded-clause-tile : goal.returns-then-coded-clause-tile
 returns-then-coded-clause-tile c = λ h.
-    let f : SFits w32 c.args.e.delta = search rules in
-    let d : to_z w32 (of_z w32 c.args.e.delta) ≡ c.args.e.delta = to_z-of_z f in
+    let d = delta-kept (goal.at.returns-then-coded-clause-tile c).Then-coded in
     tile-by _ (c.args.ctx.num_tile_rows * c.args.ctx.num_tile_columns) _ _ _ _ _ _ c.args.e.delta_present _ c.slices_to_come-more.ensures c.if-coded.true (delta-moved _ _ _ _ (rw d at c.in_ok-tile.ensures) c.requires)
 
 pub returns-in_err-test-2-clause-put : goal.returns-in_err-test-2-clause-put
