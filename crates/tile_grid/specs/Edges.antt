@@ -7,6 +7,7 @@ use mathlib.Core.List.{List, [], ◌∷◌}
 use Prim.Native.Nat.{ℕ, zero, suc, ◌+◌, ◌*◌, ◌≤◌, ◌<◌}
 use Rattle.std.proofs.Math.Nat.{mul-add, mul-zero}
 use Rattle.std.proofs.lemmas.Bool.{eqb-false}
+use Rattle.std.proofs.lemmas.List.{set-get_or}
 use Rattle.partition.specs.Groups.{Group, groups_at}
 use Rattle.partition.specs.Sums.{among, among_in, among-low, among-high, Place, low, mid, high, place}
 
@@ -64,6 +65,10 @@ added_at t i n y h = split (eqb i y) refl
 pub added_length : (t : List ℕ) (i n : ℕ) → length (add_at t i n) ≡ length t
 unfolding add_at
 added_length t i n = length-set t i (get_or t i 0 + n)
+
+pub added-none : (t : List ℕ) (row : ℕ) → t ≡ add_at t row 0
+unfolding add_at
+added-none t row = rw add-zero (sym (set-get_or t row 0))
 
 pub marked-at : (edge : Group → ℕ) (x : ℕ) (ps : List Group) (t : List ℕ) (y : ℕ) → y < length t → get_or (marked edge x ps t) y 0 ≡ get_or t y 0 + edges_at edge ps x y
 unfolding marked edges_at

@@ -9,7 +9,7 @@ use Rattle.partition.specs.Sums.{among}
 use Rattle.tile_grid.specs.declared.placed.TileGroup.{TileGroup}
 use Rattle.tile_grid.specs.Rects.{no_tiles}
 use Rattle.tile_grid.specs.TileGroups.{group_of, groups_in}
-use Rattle.tile_grid.specs.Edges.{top_row, past_row, add_at, marked, AllZero, among_one, added_length}
+use Rattle.tile_grid.specs.Edges.{top_row, past_row, add_at, marked, AllZero, among_one, added_length, added-none}
 
 -- ---- one table
 
@@ -72,6 +72,10 @@ module _ (gs : List TileGroup) (x : ℕ) where
           pasts = rw (h, e) (marking_goes-on past_row x _ _ (group_of g) ends₀ ends k (rw (drop_more gs k no_tiles l) at c.pasts));
           inside = omega arith;
         }
+
+    -- a group that does not reach into the column
+    pub counting-skips : k < length gs → 0 ≡ among g.x g.columns x → Counting starts₀ ends₀ starts ends (k + 1)
+    counting-skips l e = counting-goes-on 0 starts ends l e (added-none starts (g.y + 0)) (added-none ends (g.y + g.rows))
 
     pub counting-ends : length gs ≤ k → (starts ≡ marked top_row x (groups_in gs) starts₀) × (ends ≡ marked past_row x (groups_in gs) ends₀)
     counting-ends l = (

@@ -1,6 +1,6 @@
 // How often the tiles of a grid are covered by groups of tiles: the counting behind the cover check
 // (docs/BEHAVIOUR.md).
-ghost use Rattle.std.specs.Prelude.{◌≡◌, ◌+◌, ◌*◌, ◌/◌, ◌%◌, ◌≤◌, ◌<◌, get_or, length};
+ghost use Rattle.std.specs.Prelude.{◌≡◌, ◌+◌, ◌*◌, ◌/◌, ◌%◌, ◌≤◌, ◌<◌, cond, get_or, length};
 ghost use Rattle.partition.specs.Cover.{RightTiles};
 ghost use Rattle.partition.specs.Grid.{max_tile_columns, max_tiles, max_slices};
 ghost use Rattle.partition.specs.Groups.{groups_at};
@@ -15,26 +15,23 @@ use super::placed::TileGroup;
 use slice_loop::TileIdx;
 use tile_sizes::MAX_TILES;
 
-// 1 where x is one of the count numbers from first on, else 0.
+// x is one of the count numbers from first on.
 #[tactic(auto, unfolding(partition::specs::Sums::among))]
-fn inside(first: u32, count: u32, x: u32) -> u32
-    ensures { (result ≡ among first count x) × (result ≤ 1) }
+fn inside(first: u32, count: u32, x: u32) -> bool
+    ensures { cond result 1 0 ≡ among first count x }
 {
-    if x < first {
-        return 0;
-    }
-    if x - first < count { 1 } else { 0 }
+    first <= x && x - first < count
 }
 
-// n more at a row, where the table has that row.
+// One more at a row, where the table has that row.
 #[tactic(auto, unfolding(crate::specs::Edges::add_at))]
-fn add_at(table: &mut [u32], row: u32, height: u32, n: u32)
-    requires { get_or table.old (row + height) 0 + n < 4294967296 }
-    ensures { table.new ≡ add_at table.old (row + height) n }
+fn add_one(table: &mut [u32], row: u32, height: u32)
+    requires { get_or table.old (row + height) 0 + 1 < 4294967296 }
+    ensures { table.new ≡ add_at table.old (row + height) 1 }
 {
     let at = row as usize + height as usize;
     if at < table.len() {
-        table[at] += n;
+        table[at] += 1;
     }
 }
 
@@ -46,9 +43,11 @@ fn count_edges(starts: &mut [u32], ends: &mut [u32], x: u32, groups: &[TileGroup
         × (ends.new ≡ marked past_row x ps ends.old) }
 {
     for g in groups {
-        let n = inside(g.x, g.columns, x);
-        add_at(starts, g.y, 0, n);
-        add_at(ends, g.y, g.rows, n);
+        if !inside(g.x, g.columns, x) {
+            continue;
+        }
+        add_one(starts, g.y, 0);
+        add_one(ends, g.y, g.rows);
     }
 }
 
