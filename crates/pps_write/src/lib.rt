@@ -2,7 +2,7 @@
 // lent tables, into bytes that the caller lends.
 #![tactic(auto)]
 
-ghost use Rattle.std.specs.Prelude.{◌≡◌, ◌+◌, ◌*◌, ◌≤◌, ◌++◌, leb, length, drop};
+ghost use Rattle.std.specs.Prelude.{◌≡◌, ◌+◌, ◌*◌, leb};
 ghost use Rattle.refusal.specs.Answers.{with_number};
 ghost use Rattle.pps_syntax.specs.WriteAnswers.{wrote, write_set, write_pps, write_pps_nal};
 ghost use Rattle.pps_tables.specs.Lent.{lent_of};
