@@ -1,9 +1,9 @@
--- A byte of zeros has no 1 bit.
+-- A byte of zeros has no 1 bit, so that a scan from the end passes over it.
 use Rattle.std.specs.Prelude.{ℕ, zero, suc, ◌+◌, ◌-◌, ◌*◌, ◌/◌, ◌%◌, ◌^◌, ◌≤◌, ◌<◌, max, List, ◌≡◌, refl, Bool, true, false, cond, ltb, get_or}
 use Rattle.std.proofs.Common.{arith}
 use Rattle.std.proofs.Math.Nat.{zero-div}
-use Rattle.codes.specs.Bytes.{bit_at, bit_count}
-use Rattle.bit_reader.specs.Extension.{ones, ones-back}
+use Rattle.codes.specs.Bytes.{bit_at, bit_count, bit-lt}
+use Rattle.bit_reader.specs.Extension.{ones, ones_none, ones-back, extension-none, extension-ends, extension-more}
 
 module _ (s : List ℕ) where
   zero_bit : (p : ℕ) → get_or s (p / 8) 0 ≡ 0 → bit_at s p ≡ 0
@@ -30,3 +30,7 @@ module _ (s : List ℕ) where
       let p : max at ((i - 1) * 8) ≡ (i - 1) * 8 + 8 - ((i - 1) * 8 + 8 - max at ((i - 1) * 8)) = omega arith in
       let q : max at (i * 8) ≡ (i - 1) * 8 + 8 = omega arith in
       rw (p, q) (zero_bits (i - 1) ((i - 1) * 8 + 8 - max at ((i - 1) * 8)) e z (omega arith) (omega arith))
+
+pub ruleset scan = (bit-lt, ones_none, ones-back, over_zeros, extension-none, extension-ends)
+
+pub ruleset more = (extension-more)

@@ -83,6 +83,7 @@ fn move_on(s: &[u8], at: usize, n: usize) -> usize
 }
 
 // The number that `n` bits spell.
+#[tactic(auto, using(crate::proofs::Words::bits))]
 fn bits_from(s: &[u8], at: usize, n: u32) -> u32
     requires { (at ≤ 2 ^ 63 + 32) × (n ≤ 32) }
     ensures { result ≡ bits_at s.now at n }
@@ -96,6 +97,7 @@ fn bits_from(s: &[u8], at: usize, n: u32) -> u32
 }
 
 // The run of zero bits, at most 32.
+#[tactic(auto, using(crate::proofs::Words::zeros))]
 fn zeros_from(s: &[u8], at: usize) -> usize
     requires { at ≤ 2 ^ 63 }
     ensures { result ≡ zeros_at s.now at 32 }
@@ -127,6 +129,7 @@ fn signed_of(k: u32) -> i32
 
 // How many bits are taken while more_rbsp_data() holds: those up to the last 1 bit but one, found by one scan from the
 // end, which looks at the bits of only those bytes that are not 0.
+#[tactic(auto, using(crate::proofs::Zeros::scan))]
 pub fn extension_bits(s: &[u8], at: usize) -> usize
     ensures { result ≡ extension_bits s.now at }
 {
@@ -147,6 +150,7 @@ pub fn extension_bits(s: &[u8], at: usize) -> usize
 }
 
 // more_rbsp_data() as the Rust has it: whether two 1 bits are left, of which the last is the stop bit.
+#[tactic(auto, using(crate::proofs::Zeros::more))]
 pub fn more_rbsp_data(s: &[u8], at: usize) -> bool
     ensures { result ≡ more_rbsp_data s.now at }
 {

@@ -1,16 +1,10 @@
 -- How a u64 computes the bits of a byte.
 use Prim.Native.Nat.{ℕ, ◌+◌, ◌*◌, ◌%◌, ◌^◌, ◌≤◌, ◌<◌}
-use native.Mathlib.Nat.{one-mul}
 use native.Mathlib.Omega.{arith}
 use mathlib.Core.Path.{◌≡◌, sym, ◌∙◌}
-use lib.Pow.{shl_exact}
 use Rattle.codes.specs.Bits.{to_bits}
 use Rattle.bit_writer.specs.Writing.{Writing, place, holding, put_byte, feed}
 use Rattle.bit_writer.specs.Chunks.{chunk_open, chunk_whole}
-
--- a shifted 1
-pub power : (m n : ℕ) → m < n → (1 * 2 ^ m) % 2 ^ n ≡ 2 ^ m
-power m n h = shl_exact 1 m n (omega arith) (omega arith) ∙ one-mul (2 ^ m)
 
 module _ (w : Writing) (m p x : ℕ) (e : p ≡ 2 ^ m) where
   pub made_open : 0 < m → place w.sink + m < 8 → holding w ((w.sink.cur * p + x % p) % 256) (place w.sink + m) ≡ feed w (to_bits m x)

@@ -56,3 +56,5 @@ module _ (w : Writing) where
   pub closed-made : {t u : Writing} → w.sink.refused ≡ 0 → t ≡ play_on w (putting (trailing_bits w.sink.have)) → u ≡ finished t → u ≡ closed w
   unfolding closed
   closed-made z p q = q ∙ ap finished (p ∙ on-bits w (trailing_bits w.sink.have) z)
+
+pub ruleset closing = (trailing-made, closed-made)

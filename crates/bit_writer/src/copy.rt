@@ -43,6 +43,7 @@ impl BitWriter {
     }
 
     // `count` bits of `src` from bit `from` on, zeros past its end.
+    #[tactic(auto, using(crate::proofs::Copying::copy_turn))]
     pub fn put_copy(&mut self, out: &mut [u8], src: &[u8], from: usize, count: usize)
         ensures { written self.new out.new
             ≡ play_on (written self.old out.old) (putting (bit_list src.now from count)) }

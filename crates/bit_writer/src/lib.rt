@@ -130,6 +130,7 @@ impl BitWriter {
     }
 
     // rbsp_trailing_bits(): a 1, then zeros to the end of the byte.
+    #[tactic(auto, using(crate::proofs::Coding::closing))]
     pub fn put_trailing(&mut self, out: &mut [u8])
         ensures { written self.new out.new
             ≡ play_on (written self.old out.old) (putting (trailing_bits self.old.have)) }
@@ -150,6 +151,7 @@ impl BitWriter {
     }
 
     // The trailing bits, and the end of the payload.
+    #[tactic(auto, using(crate::proofs::Coding::closing))]
     pub fn close(&mut self, out: &mut [u8])
         ensures { written self.new out.new ≡ closed (written self.old out.old) }
     {

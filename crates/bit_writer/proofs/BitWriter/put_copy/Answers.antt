@@ -5,14 +5,8 @@ use Rattle.codes.specs.Bytes.{bits_at, bit_list}
 use Rattle.bit_writer.specs.Writing.{feed}
 use Rattle.bit_writer.specs.Written.{written}
 use Rattle.bit_writer.proofs.Ended.{feed_on}
-use Rattle.bit_writer.proofs.Copying.{copy_turn, copy_ends}
+use Rattle.bit_writer.proofs.Copying.{copy_ends}
 use Rattle.bit_writer.proofs.BitWriter.put_copy.Goals as goal
-
-pub loop-i-preserved : goal.loop-i-preserved
-loop-i-preserved c = (
-  c.byte_at-b.ensures,
-  copy_turn _ _ c.loop-i.i (c.args.from % 8) _ _ _ _ (omega arith) c.loop-i.invariant.0 c.byte_at-b.ensures c.eight_of.ensures _ (omega arith) c.put_eight.ensures ∙ c.loop-i.invariant.1,
-)
 
 pub returns : goal.returns
 returns c =
