@@ -24,24 +24,12 @@ use Rattle.pps_fields.specs.Axis.{axis_of}
 use Rattle.pps_fields.specs.ListReads.{list_read}
 use Rattle.pps_fields.specs.Sizes.{size_read, sizes_read, sizes-many}
 use Rattle.syntax.specs.Round.{and_parts}
+use Rattle.pps_slices.proofs.SizeReads.{sizes-most}
 use Rattle.pps_slices.proofs.Chain.{was_read, was_refused}
 use Rattle.pps_slices.proofs.Stuck.{Stuck, stays-stuck, demanded-on, many-stuck}
 use Rattle.pps_syntax.specs.PartitionSyntax.{ctu_size, explicit}
 use Rattle.pps_partition.specs.declared.tiles.TileSizesRead.{TileSizesRead}
 use Rattle.pps_partition.specs.TileSizes.{TileSizes, tile_sizes, sizes_kept}
-
--- no more sizes than are asked for
-sizes-most : (count bound n : ℕ) (s : List ℕ) (c : Cursor) → length (sizes_read count bound n s c).value ≤ count
-unfolding sizes_read list_read
-sizes-most count bound n s c = go count c
-  where
-    step : (t : Bool) (k : ℕ) (x y : Parsed (List ℕ)) → length x.value ≤ k → length y.value ≤ k → length (cond t x y).value ≤ k
-    step true k x y p q = p
-    step false k x y p q = q
-
-    go : (k : ℕ) (c : Cursor) → length (list_read (size_read bound n) k s c).value ≤ k
-    go zero c = omega arith
-    go (suc k) c = step (eqb (size_read bound n s c).next.refused 0) (suc k) _ _ (omega (arith, go k (size_read bound n s c).next)) (omega arith)
 
 -- a list of explicit sizes, as the description has it
 listed_as : (count S k c : ℕ) → k ≡ in_ctbs S c → (s : List ℕ) (d : Cursor) → sizes_read (count + 1) k 11 s d ≡ (explicit count (in_ctbs S c)).read s d

@@ -6,3 +6,4 @@ pub mod Entries
 pub mod Turns
 pub mod Held
 pub mod NothingLeft
+pub mod SizeReads
