@@ -109,7 +109,8 @@ impl Sink {
         Sink::of(w, self.refused)
     }
 
-    // What a run says of an output with that much room: the number of bytes; or that of the refusal, 29 if they need more.
+    // What a run says of an output with that much room: the number of bytes; or that of the refusal, 29 if they need
+    // more.
     #[tactic(auto, unfolding(crate::specs::Answers::answer_of, crate::specs::Answers::answered, refusal::specs::Numbers::number))]
     pub fn answer(self, room: usize) -> Result<usize, u8>
         ensures { result ≡ answer_of self room }
