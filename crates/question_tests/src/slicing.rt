@@ -17,13 +17,6 @@ use refusal::Refusal;
 use slice_loop::SliceIdx;
 use tile_sizes::MAX_NUM_SLICES_MINUS1;
 
-// Rectangular slices are coded.
-pub fn slices_coded(p: &VvcPpsPartition) -> bool
-    ensures { result ≡ coded p.now.pps_rect_slice_flag p.now.pps_single_slice_per_subpic_flag }
-{
-    p.pps_rect_slice_flag != 0 && p.pps_single_slice_per_subpic_flag == 0
-}
-
 // 26 or 14: the tests before the slice loop.
 #[tactic(auto, unfolding(crate::specs::Questions::slicing_checks, partition::specs::Checks::first_bad, partition::specs::Checks::number_of, refusal::specs::Numbers::refused, refusal::specs::Numbers::number,))]
 fn before_loop(tiles: u64, p: &VvcPpsPartition) -> Result<(), Refusal>
@@ -35,7 +28,7 @@ fn before_loop(tiles: u64, p: &VvcPpsPartition) -> Result<(), Refusal>
     if tiles <= 1 && p.pps_rect_slice_flag == 0 {
         return Err(Refusal::Contradiction);
     }
-    if !slices_coded(p) {
+    if !p.slices_coded() {
         if p.num_rect_slices != 0 {
             return Err(Refusal::Contradiction);
         }
@@ -60,7 +53,7 @@ pub fn slicing_refusal(
     ensures { refused result ≡ declined_with (sliced_in (grid_in sizes.now) p.now (slices_of slices.entry)) }
 {
     before_loop(sizes.num_tiles(), p)?;
-    if !slices_coded(p) {
+    if !p.slices_coded() {
         return Ok(());
     }
     walk_refusal(

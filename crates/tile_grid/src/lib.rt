@@ -15,7 +15,7 @@ use placed::accepted_slices;
 use pps_record::{VvcPps, VvcPpsPartition};
 use pps_tables::LentTables;
 use question_tests::record::record_refusal;
-use question_tests::slicing::{slices_coded, slicing_refusal};
+use question_tests::slicing::slicing_refusal;
 use refusal::Refusal;
 use slice_loop::{CtbCount, TileIdx};
 use std::fmt;
@@ -89,7 +89,7 @@ impl fmt::Display for Cover {
 fn has_slices(p: &VvcPpsPartition) -> bool
     ensures { result ≡ has_slices p.now }
 {
-    p.present != 0 && slices_coded(p)
+    p.present != 0 && p.slices_coded()
 }
 
 impl TileGrid {

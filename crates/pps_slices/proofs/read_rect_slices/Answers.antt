@@ -12,8 +12,8 @@ pub read_loop-requires : goal.read_loop-requires
 read_loop-requires c = let small : c.args.num_tile_columns < 256 = search rules in
     (front_length _ _ c.min-rows.ensures, tiles-few _ c.args.row_heights.now c.min-rows.ensures _ small)
 
-pub returns : goal.returns
-returns c = record {
-  gives = λ g h. c.read_loop.ensures.gives g (over-made _ _ g (front_length _ _ c.min-rows.ensures) (record { columns_are = h.columns_are; heights_are = h.heights_are ∙ sym (front_same _ _ c.min-rows.ensures) }));
-  tables = λ g h. c.read_loop.ensures.tables g (over-made _ _ g (front_length _ _ c.min-rows.ensures) (record { columns_are = h.columns_are; heights_are = h.heights_are ∙ sym (front_same _ _ c.min-rows.ensures) }));
-}
+pub returns-clause-gives : goal.returns-clause-gives
+returns-clause-gives c = λ g h. c.read_loop.ensures.gives g (over-made _ _ g (front_length _ _ c.min-rows.ensures) (record { columns_are = h.columns_are; heights_are = h.heights_are ∙ sym (front_same _ _ c.min-rows.ensures) }))
+
+pub returns-clause-tables : goal.returns-clause-tables
+returns-clause-tables c = λ g h. c.read_loop.ensures.tables g (over-made _ _ g (front_length _ _ c.min-rows.ensures) (record { columns_are = h.columns_are; heights_are = h.heights_are ∙ sym (front_same _ _ c.min-rows.ensures) }))
