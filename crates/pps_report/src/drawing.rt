@@ -16,7 +16,7 @@ impl fmt::Display for Drawing<'_> {
     fn fmt<W: fmt::Write>(&self, f: &mut fmt::Formatter<W>) -> fmt::Result {
         match self.0 {
             Err(refusal) => write!(f, "{}", Page::of_line(Refused(*refusal))),
-            Ok(report) if report.num_tile_columns == 0 => {
+            Ok(report) if report.sizes.num_tile_columns == 0 => {
                 write!(f, "{}", Page::of_line(Unpartitioned(report)))
             }
             Ok(report) => write!(f, "{}", Page::of_picture(report)),

@@ -31,12 +31,12 @@ impl fmt::Display for Numbers<'_> {
         write!(
             f,
             "tiles {} x {}, ",
-            report.num_tile_columns, report.num_tile_rows
+            report.sizes.num_tile_columns, report.sizes.num_tile_rows
         )?;
         write!(
             f,
             "slices {}, cover {}",
-            report.num_slices,
+            report.plan.num_slices,
             CoverWord(report.cover)
         )
     }

@@ -23,14 +23,6 @@ pub use input::{LARGEST, read_full};
 use refusal::Refusal;
 use report::{Report, report_of};
 use text::Info;
-use tile_sizes::{MAX_SLICES, MAX_TILE_COLUMNS, MAX_TILES};
-
-// The lengths of the lists in a report.
-const COLUMNS: usize = MAX_TILE_COLUMNS as usize;
-
-const ROWS: usize = MAX_TILES as usize;
-
-const SLICES: usize = MAX_SLICES as usize;
 
 // The number of a refusal, 0 where there is none.
 #[tactic(auto, unfolding(refusal::specs::Numbers::refused))]

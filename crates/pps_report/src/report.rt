@@ -3,7 +3,8 @@ ghost use Rattle.std.specs.Prelude.{◌≡◌};
 ghost use Rattle.pps_report.specs.Told.{refusal_told};
 ghost use Rattle.refusal.specs.Numbers.{refused};
 
-use crate::{COLUMNS, LARGEST, ROWS, SLICES};
+use crate::LARGEST;
+use grid_sizes::GridSizes;
 use pps_answer::AcceptedPps;
 use pps_read::parse_pps;
 use pps_record::lengths::{
@@ -13,15 +14,6 @@ use pps_tables::{ENTRY_LEN, LentTables, LentTablesMut, SliceTables};
 use refusal::Refusal;
 use tile_grid::{Cover, SlicePlan, SliceRect, TileGrid};
 
-// A rectangle in CTBs.
-#[derive(Clone, Copy, Default)]
-pub struct Rect {
-    pub left: u32,
-    pub top: u32,
-    pub width: u32,
-    pub height: u32,
-}
-
 // The picture: its size in luma samples, its tiles and its slices.
 #[derive(Clone, Copy)]
 pub struct Report {
@@ -29,51 +21,17 @@ pub struct Report {
     pub width: u32,
     pub height: u32,
     pub log2_ctu_size_minus5: u8,
-    pub num_tile_columns: u32,
-    pub num_tile_rows: u32,
-    column_widths: [u32; COLUMNS],
-    row_heights: [u32; ROWS],
-    pub num_slices: u32,
-    slices: [Rect; SLICES],
+    pub sizes: GridSizes,
+    pub plan: SlicePlan,
     pub cover: Result<Option<Cover>, Refusal>,
 }
 
 impl Report {
-    pub fn column_widths(&self) -> &[u32] {
-        first(&self.column_widths, self.num_tile_columns)
+    // The slices in use.
+    pub fn slices(&self) -> &[SliceRect] {
+        let slices = &self.plan.slices;
+        &slices[..slices.len().min(self.plan.num_slices as usize)]
     }
-
-    pub fn row_heights(&self) -> &[u32] {
-        first(&self.row_heights, self.num_tile_rows)
-    }
-
-    pub fn slices(&self) -> &[Rect] {
-        first(&self.slices, self.num_slices)
-    }
-}
-
-// The first n, or all where there are fewer.
-fn first<T>(list: &[T], n: u32) -> &[T] {
-    &list[..list.len().min(n as usize)]
-}
-
-impl From<SliceRect> for Rect {
-    fn from(slice: SliceRect) -> Rect {
-        Rect {
-            left: slice.left.0,
-            top: slice.top.0,
-            width: slice.width.0,
-            height: slice.height.0,
-        }
-    }
-}
-
-fn slices_of(plan: &SlicePlan) -> [Rect; SLICES] {
-    let mut slices = [Rect::default(); SLICES];
-    for (i, slice) in slices.iter_mut().enumerate() {
-        *slice = Rect::from(plan.slices[i]);
-    }
-    slices
 }
 
 // The three questions of a record that was read; none refuses what reading gave (`pps_asked`).
@@ -84,20 +42,13 @@ fn accepted_report(a: AcceptedPps, lent: LentTables<'_>) -> Report {
         .sizes;
     let plan = TileGrid::slice_plan(&pps, lent).unwrap_or(SlicePlan::NONE);
     let cover = TileGrid::slice_cover(&pps, lent);
-    let column_widths = sizes.column_widths;
-    let row_heights = sizes.row_heights;
-    let slices = slices_of(&plan);
     Report {
         bytes_taken: a.bytes_taken,
         width: pps.pps_pic_width_in_luma_samples,
         height: pps.pps_pic_height_in_luma_samples,
         log2_ctu_size_minus5: pps.partition.pps_log2_ctu_size_minus5,
-        num_tile_columns: sizes.num_tile_columns,
-        num_tile_rows: sizes.num_tile_rows,
-        column_widths,
-        row_heights,
-        num_slices: plan.num_slices,
-        slices,
+        sizes,
+        plan,
         cover,
     }
 }

@@ -1,6 +1,7 @@
 // CTBs in the units of the drawing. A result that would pass a u32 stays at its largest number.
-use crate::report::{Rect, Report};
+use crate::report::Report;
 use std::fmt;
+use tile_grid::SliceRect;
 use tile_sizes::in_ctbs;
 
 // Units across the picture, whatever its width.
@@ -37,9 +38,9 @@ impl Frame {
         let ctbs_across = in_ctbs(report.width, report.log2_ctu_size_minus5).0;
         let ctbs_down = in_ctbs(report.height, report.log2_ctu_size_minus5).0;
         let square = scaled(ctbs_down, ctbs_across, WIDTH);
-        let columns = report.num_tile_columns;
-        let in_a_column = report.num_slices.checked_div(columns).unwrap_or(0);
-        let side_by_side = columns.max(report.num_tile_rows).max(in_a_column);
+        let columns = report.sizes.num_tile_columns;
+        let in_a_column = report.plan.num_slices.checked_div(columns).unwrap_or(0);
+        let side_by_side = columns.max(report.sizes.num_tile_rows).max(in_a_column);
         Frame {
             ctbs_across,
             ctbs_down,
@@ -56,16 +57,16 @@ impl Frame {
         scaled(y, self.ctbs_down, self.height)
     }
 
-    pub fn area(self, r: Rect) -> Area {
-        let x = self.across(r.left);
-        let y = self.down(r.top);
+    pub fn area(self, r: SliceRect) -> Area {
+        let x = self.across(r.left.0);
+        let y = self.down(r.top.0);
         Area {
             x,
             y,
             width: self
-                .across(r.left.saturating_add(r.width))
+                .across(r.left.0.saturating_add(r.width.0))
                 .saturating_sub(x),
-            height: self.down(r.top.saturating_add(r.height)).saturating_sub(y),
+            height: self.down(r.top.0.saturating_add(r.height.0)).saturating_sub(y),
         }
     }
 }

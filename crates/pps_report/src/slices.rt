@@ -1,24 +1,23 @@
 // The slices, and whether they hold a block.
 use crate::marks::Number;
-use crate::report::Rect;
 use crate::scale::Frame;
+use slice_loop::CtbCount;
 use std::fmt;
+use tile_grid::SliceRect;
 
-impl Rect {
-    // It holds the block at x, y.
-    pub fn holds(&self, x: u32, y: u32) -> bool {
-        within(self.left, self.width, x) && within(self.top, self.height, y)
-    }
+// The slice holds the block at x, y.
+pub fn holds(slice: &SliceRect, x: CtbCount, y: CtbCount) -> bool {
+    within(slice.left, slice.width, x) && within(slice.top, slice.height, y)
 }
 
-fn within(first: u32, count: u32, x: u32) -> bool {
-    x >= first && x - first < count
+fn within(first: CtbCount, count: CtbCount, x: CtbCount) -> bool {
+    x.0 >= first.0 && x.0 - first.0 < count.0
 }
 
 // Each in a colour of its own, neighbours in the order far apart.
 #[derive(Clone, Copy)]
 pub struct Slices<'a> {
-    pub slices: &'a [Rect],
+    pub slices: &'a [SliceRect],
     pub frame: Frame,
 }
 
@@ -41,7 +40,7 @@ impl fmt::Display for Slices<'_> {
 // Their numbers, which stand above the tiles.
 #[derive(Clone, Copy)]
 pub struct SliceNumbers<'a> {
-    pub slices: &'a [Rect],
+    pub slices: &'a [SliceRect],
     pub frame: Frame,
 }
 

@@ -1,14 +1,17 @@
 // The tiles: borders, numbers, and whether they lie in no slice or in several.
 use crate::marks::Number;
-use crate::report::{Rect, Report};
+use crate::report::Report;
 use crate::scale::Frame;
+use crate::slices::holds;
+use slice_loop::CtbCount;
 use std::fmt;
+use tile_grid::SliceRect;
 
 #[derive(Clone, Copy)]
 struct Tile<'a> {
     number: usize,
-    rect: Rect,
-    slices: &'a [Rect],
+    rect: SliceRect,
+    slices: &'a [SliceRect],
     frame: Frame,
 }
 
@@ -22,7 +25,7 @@ impl Tile<'_> {
         match self
             .slices
             .iter()
-            .filter(|s| s.holds(self.rect.left, self.rect.top))
+            .filter(|s| holds(s, self.rect.left, self.rect.top))
             .take(2)
             .count()
         {
@@ -56,19 +59,19 @@ pub struct Tiles<'a> {
 
 impl fmt::Display for Tiles<'_> {
     fn fmt<W: fmt::Write>(&self, f: &mut fmt::Formatter<W>) -> fmt::Result {
-        let column_widths = self.report.column_widths();
+        let column_widths = self.report.sizes.column_widths();
         let mut number = 0usize;
         let mut top = 0u32;
-        for &height in self.report.row_heights() {
+        for &height in self.report.sizes.row_heights() {
             let mut left = 0u32;
             for &width in column_widths {
                 let tile = Tile {
                     number,
-                    rect: Rect {
-                        left,
-                        top,
-                        width,
-                        height,
+                    rect: SliceRect {
+                        left: CtbCount(left),
+                        top: CtbCount(top),
+                        width: CtbCount(width),
+                        height: CtbCount(height),
                     },
                     slices: self.report.slices(),
                     frame: self.frame,
