@@ -13,7 +13,7 @@ use Rattle.bit_reader.specs.Gives.{Parsed, parsed, cursor_of, Gives, held_as, va
 use Rattle.bit_reader.specs.Reading.{refusal, cursor_at, demanded}
 use Rattle.bit_reader.specs.Laws.{demanded-refused}
 use Rattle.bit_reader.proofs.Gives.{given, given_back, refused_back, refuses, not-0, over, holds, holds-none}
-use Rattle.partition.specs.Grid.{Grid, columns, rows, max_tile_columns, max_tiles}
+use Rattle.partition.specs.Grid.{Grid, columns, max_tile_columns, max_tiles}
 use Rattle.partition.specs.Partition.{in_ctbs, tile_grid}
 use Rattle.partition.specs.Sizes.{uniform_size, axis_sizes, Fit}
 use Rattle.pps_record.specs.declared.VvcPpsPartition.{VvcPpsPartition}

@@ -1,5 +1,5 @@
 -- A part of a description that a function of its own reads.
-use Rattle.std.specs.Prelude.{ℕ, ◌≡◌, List, Bool, true, false, not, Result, Ok, Err, IfOk, refl}
+use Rattle.std.specs.Prelude.{ℕ, ◌≡◌, List, Result, Ok, Err, IfOk, refl}
 use Rattle.std.proofs.Common.{sym, ap, subst, ◌∙◌}
 use Rattle.refusal.specs.declared.Refusal.{Refusal}
 use Rattle.refusal.specs.Numbers.{number, refused}
@@ -51,12 +51,3 @@ module _ {A B : Type 0} (f : A → B) (read : List ℕ → Cursor → Parsed A) 
   pub was_refused : {e : Refusal} → Gives (held_as f read) p q (Err e) → Gives read p q (Err e)
   unfolding refused
   was_refused g = record { bytes = g.bytes; next = g.next; value = tt }
-
--- ---- a test that failed, one that held
-pub not-false : (b : Bool) → not b ≡ true → b ≡ false
-not-false true e = sym e
-not-false false e = refl
-
-pub not-true : (b : Bool) → not b ≡ false → b ≡ true
-not-true true e = refl
-not-true false e = sym e
