@@ -66,7 +66,9 @@ impl Frame {
             width: self
                 .across(r.left.0.saturating_add(r.width.0))
                 .saturating_sub(x),
-            height: self.down(r.top.0.saturating_add(r.height.0)).saturating_sub(y),
+            height: self
+                .down(r.top.0.saturating_add(r.height.0))
+                .saturating_sub(y),
         }
     }
 }

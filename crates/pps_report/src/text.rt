@@ -46,7 +46,11 @@ impl fmt::Display for Report {
     fn fmt<W: fmt::Write>(&self, f: &mut fmt::Formatter<W>) -> fmt::Result {
         writeln!(f, "accepted {}", self.bytes_taken)?;
         writeln!(f, "picture {} {}", self.width, self.height)?;
-        writeln!(f, "tiles {} {}", self.sizes.num_tile_columns, self.sizes.num_tile_rows)?;
+        writeln!(
+            f,
+            "tiles {} {}",
+            self.sizes.num_tile_columns, self.sizes.num_tile_rows
+        )?;
         writeln!(f, "cover {}", CoverWord(self.cover))
     }
 }
