@@ -1,7 +1,7 @@
 -- The sizes of an axis, written one by one to the front of a table.
 use mathlib.Core.Path.{◌≡◌, refl, ap, ap₂, sym, ◌∙◌}
 use mathlib.Core.List.{List, [], ◌∷◌, ◌++◌, append_assoc, append-nil}
-use Prim.Native.Nat.{ℕ, zero, suc, ◌+◌, ◌-◌, ◌≤◌, ◌<◌, min}
+use Prim.Native.Nat.{ℕ, ◌+◌, ◌-◌, ◌≤◌, ◌<◌, min}
 use native.Mathlib.Numerals.{add-one}
 use native.Mathlib.Omega.{arith}
 use lib.ListN.{length, get_or, take, drop, set, length-append, length-set, length-take, take-append-drop}
@@ -65,11 +65,6 @@ module _ (es whole : List ℕ) (u : ℕ) (old out : List ℕ) (remaining j s : �
         some = f.some;
         room = f.room;
       }
-
--- the table has room for all sizes: at its end none is left
-pub filling_full : (es whole : List ℕ) (u : ℕ) (old out : List ℕ) (remaining j : ℕ) → length out ≤ j → Filling es whole u old out remaining j → remaining ≡ 0
-filling_full es whole u old out zero j l f = refl
-filling_full es whole u old out (suc n) j l f = absurd (omega (arith, l, has_room es whole u old out (suc n) j _ (omega arith) refl f))
 
 pub filling_ends : (es whole : List ℕ) (u : ℕ) (old out : List ℕ) (remaining j : ℕ) → remaining ≡ 0 → Filling es whole u old out remaining j
     → out ≡ whole ++ drop (length whole) old

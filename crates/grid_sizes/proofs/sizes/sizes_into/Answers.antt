@@ -3,7 +3,7 @@ use Prim.Native.Nat.{◌≤◌}
 use native.Mathlib.Omega.{arith}
 use Rattle.std.proofs.lemmas.List.{set-get_or}
 use Rattle.tile_sizes.specs.Left.{last_fits}
-use Rattle.grid_sizes.proofs.Fill.{filling_begins, filling_goes-on, filling_full, filling_ends}
+use Rattle.grid_sizes.proofs.Fill.{filling_begins, filling_goes-on, filling_ends}
 use Rattle.grid_sizes.proofs.sizes.sizes_into.Goals as goal
 
 pub overflow_add-uniform : goal.overflow_add-uniform
@@ -17,6 +17,3 @@ loop-j-preserved c = let more : 1 ≤ c.loop-j.remaining = omega arith in fillin
 
 pub returns-then-remaining-eq0 : goal.returns-then-remaining-eq0
 returns-then-remaining-eq0 c = rw (set-get_or c.loop-j.out c.loop-j.j 0) (filling_ends _ _ _ _ _ _ _ (omega arith) c.loop-j.invariant)
-
-pub returns-after-loop-j : goal.returns-after-loop-j
-returns-after-loop-j c = filling_ends _ _ _ _ _ _ _ (filling_full _ _ _ _ _ _ _ (omega arith) c.loop-j.invariant) c.loop-j.invariant

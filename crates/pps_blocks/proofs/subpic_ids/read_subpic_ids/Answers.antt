@@ -1,5 +1,5 @@
 -- One step of the description for each call.
-use Rattle.std.proofs.Common.{lit<, arith}
+use Rattle.std.proofs.Common.{lit<}
 use Rattle.pps_syntax.specs.SubpicIds.{subpic_ids}
 use Rattle.refusal.specs.Numbers.{number}
 use Rattle.syntax.specs.Syntax.{◌>>=◌}
@@ -20,12 +20,6 @@ returns-in_err-len c = let d = subpic_ids c.args.partitioned in
     let r = mapping_refused c.args.partitioned c.from_residual-in_err-len.ensures (follows d (c.flag-present.ensures
     ⟫ c.in_ok-num.ensures.value _ (lit< tt) ⟫ stop (c.in_err-len.ensures.value _ (lit< tt)))) in
     record { value = r.0; table = r.1 }
-
-pub counted-count-requires : goal.counted-count-requires
-counted-count-requires c = omega (arith, c.in_ok-num.ensures.limit)
-
-pub overflow_add-len : goal.overflow_add-len
-overflow_add-len c = omega (arith, c.in_ok-len.ensures.limit)
 
 pub returns : goal.returns
 unfolding subpic_ids ◌>>=◌ number

@@ -14,9 +14,6 @@ returns-in_err-v-clause-axis c = at_exit c.from_residual.ensures.1 (pass-stops c
 pub returns-in_err-v-clause-table : goal.returns-in_err-v-clause-table
 returns-in_err-v-clause-table c = (pass-stops c.loop-i.invariant c.loop-i-test.true c.in_err-v.ensures.value).1
 
-pub overflow_add-uniform : goal.overflow_add-uniform
-overflow_add-uniform c = omega (arith, size_small c.loop-i.invariant c.in_ok-v.ensures.value)
-
 pub overflow_add-taken : goal.overflow_add-taken
 overflow_add-taken c = omega (arith, c.from-taken.ensures, pass-small c.loop-i.invariant, size_small c.loop-i.invariant c.in_ok-v.ensures.value)
 

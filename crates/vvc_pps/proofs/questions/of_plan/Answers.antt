@@ -1,10 +1,10 @@
 use native.Mathlib.Omega.{arith}
-use Rattle.std.specs.Prelude.{ℕ, length, replicate, ◌≡◌, ◌≤◌}
+use Rattle.std.specs.Prelude.{ℕ, length, replicate, ◌≡◌}
 use Rattle.std.proofs.Common.{sym, ◌∙◌}
 use Rattle.std.proofs.Math.ListN.{length-replicate}
 use Rattle.partition.specs.Grid.{max_slices}
 use Rattle.tile_grid.specs.Rects.{no_rect}
-use Rattle.vvc_pps.proofs.Spread.{spread-more, spread-all}
+use Rattle.vvc_pps.proofs.Spread.{spread-more}
 use Rattle.vvc_pps.proofs.questions.of_plan.Goals as goal
 
 pub loop-i-preserved : goal.loop-i-preserved
@@ -17,15 +17,3 @@ loop-i-preserved c =
       width = spread-more _ _ _ _ no_rect n (omega arith) _ i.width;
       height = spread-more _ _ _ _ no_rect n (omega arith) _ i.height;
     }
-
-pub returns : goal.returns
-returns c =
-    let i = c.loop-i.invariant in
-    let n : length {A = ℕ} (replicate max_slices 0) ≡ length c.args.slices.now = length-replicate {A = ℕ} max_slices 0 ∙ sym c.requires in
-    let d : length c.args.slices.now ≤ c.loop-i.i = omega arith in
-    rw (
-      spread-all _ _ _ _ _ n d i.left,
-      spread-all _ _ _ _ _ n d i.top,
-      spread-all _ _ _ _ _ n d i.width,
-      spread-all _ _ _ _ _ n d i.height,
-    )
