@@ -5,13 +5,6 @@ use Rattle.pps_slices.specs.Grids.{over-made, front_length, front_same, tiles-fe
 use borrow.Author.Rules.{rules}
 use Rattle.pps_slices.proofs.read_rect_slices.Goals as goal
 
-pub slice_bounds-read_loop-end : goal.slice_bounds-read_loop-end
-slice_bounds-read_loop-end c = front_length _ _ c.min-rows.ensures
-
-pub read_loop-requires : goal.read_loop-requires
-read_loop-requires c = let small : c.args.num_tile_columns < 256 = search rules in
-    (front_length _ _ c.min-rows.ensures, tiles-few _ c.args.row_heights.now c.min-rows.ensures _ small)
-
 pub returns-clause-gives : goal.returns-clause-gives
 returns-clause-gives c = λ g h. c.read_loop.ensures.gives g (over-made _ _ g (front_length _ _ c.min-rows.ensures) (record { columns_are = h.columns_are; heights_are = h.heights_are ∙ sym (front_same _ _ c.min-rows.ensures) }))
 

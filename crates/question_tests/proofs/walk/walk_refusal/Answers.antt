@@ -14,12 +14,6 @@ pub returns-then-not-slices_to_come : goal.returns-then-not-slices_to_come
 unfolding refused number
 returns-then-not-slices_to_come c = refusing_late c.loop-i.invariant c.loop-i-test.true _ _ refl refl (ltb-false _ _ (sym c.if-not-slices_to_come.ensures))
 
-pub overflow_add-from : goal.overflow_add-from
-overflow_add-from c = let b = behind c.loop-i.invariant c.loop-i-test.true _ _ c.entry.ensures c.split_heights_of-heights.ensures in omega (arith, b)
-
-pub entry_step-requires : goal.entry_step-requires
-entry_step-requires c = (tiles-few _ _ c.requires.0 c.requires.1, c.requires.2)
-
 pub returns-in_err-at : goal.returns-in_err-at
 unfolding refused
 returns-in_err-at c =
