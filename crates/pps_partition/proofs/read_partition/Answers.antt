@@ -2,7 +2,7 @@
 use Rattle.std.proofs.Common.{arith, rules}
 use Rattle.bit_reader.proofs.Gives.{at_exit}
 use Rattle.pps_partition.proofs.Fronts.{room_long}
-use Rattle.pps_partition.proofs.Whole.{columns_put, rows_put, no_sizes, no_sizes_put, no_grid, no_grid_put, no_slicing, slices_put, block_made, grid-small, spread_ready, spread_length, spread_front, front_few, grid_has}
+use Rattle.pps_partition.proofs.Whole.{columns_put, rows_put, no_sizes, no_sizes_put, no_grid, no_grid_put, no_slicing, slices_put, block_made, grid-small, spread_ready, spread_length, spread_front, grid_has}
 use Rattle.pps_partition.proofs.read_partition.Goals as goal
 
 pub returns-in_err-sizes-clause-answer : goal.returns-in_err-sizes-clause-answer
@@ -40,9 +40,6 @@ slice_bounds-row_heights-end c = spread_length _ _ c.in_ok-sizes.ensures.gives c
 
 pub slice_bounds-read_slicing-end : goal.slice_bounds-read_slicing-end
 slice_bounds-read_slicing-end c = spread_front _ _ c.in_ok-sizes.ensures.gives c.in_ok-num_tiles.ensures _ _ (room_long c.args.tables.now.tile_row_heights.now c.copy_front.ensures) c.read_tile_sizes-read.ensures.tables.1 c.spread.ensures
-
-pub read_slicing-requires : goal.read_slicing-requires
-read_slicing-requires c = front_few _ _ c.in_ok-sizes.ensures.gives c.in_ok-num_tiles.ensures _ _ (room_long c.args.tables.now.tile_row_heights.now c.copy_front.ensures) c.read_tile_sizes-read.ensures.tables.1 c.spread.ensures
 
 pub returns-in_err-slicing-clause-answer : goal.returns-in_err-slicing-clause-answer
 returns-in_err-slicing-clause-answer c = at_exit c.from_residual-in_err-slicing.ensures.1 (no_slicing _ _ c.in_ok-sizes.ensures.gives c.in_ok-num_tiles.ensures (c.in_err-slicing.ensures.gives _ (grid_has _ _ c.in_ok-sizes.ensures.gives c.in_ok-num_tiles.ensures _ _ (room_long c.args.tables.now.tile_row_heights.now c.copy_front.ensures) c.read_tile_sizes-read.ensures.tables.1 c.spread.ensures)))

@@ -3,13 +3,10 @@ use Prim.Native.Nat.{◌<◌}
 use native.Mathlib.Omega.{arith}
 use lib.ListN.{length}
 use Rattle.bit_reader.proofs.Gives.{at_exit}
-use Rattle.pps_partition.proofs.Slices.{several-made, all-rows, tiles-fit, no_flags, no_flags_put, no_slices, sliced, sliced_put}
+use Rattle.pps_partition.proofs.Slices.{several-made, all-rows, no_flags, no_flags_put, no_slices, sliced, sliced_put}
 use Rattle.pps_partition.specs.Slicing.{coded_left}
 use borrow.Author.Rules.{rules}
 use Rattle.pps_partition.proofs.slicing.read_slicing.Goals as goal
-
-pub overflow_mul-several : goal.overflow_mul-several
-overflow_mul-several c = let small : c.args.num_tile_columns < 256 = search rules in omega (arith, tiles-fit (length c.args.row_heights.now) c.args.num_tile_columns c.requires small)
 
 pub returns-in_err-flags-clause-gives : goal.returns-in_err-flags-clause-gives
 returns-in_err-flags-clause-gives c = λ g h. at_exit c.from_residual.ensures.1 (no_flags g _ (several-made _ _ g h) c.in_err-flags.ensures)
