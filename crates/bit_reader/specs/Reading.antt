@@ -5,6 +5,7 @@ use Rattle.codes.specs.Bytes.{bit_count, bit_at, bits_at}
 use Rattle.codes.specs.ExpGolomb.{signed_of}
 use Rattle.bit_reader.specs.declared.Cursor.{Cursor}
 use Rattle.bit_reader.specs.declared.BitsRead.{BitsRead}
+use Rattle.bit_reader.specs.declared.ByteRead.{ByteRead}
 use Rattle.bit_reader.specs.declared.SignedRead.{SignedRead}
 
 -- a cursor with no refusal
@@ -26,6 +27,10 @@ onward s at n = min (at + n) (max at (bit_count s))
 -- u(n)
 unfoldable pub u_read : List ℕ → Cursor → ℕ → BitsRead
 u_read s c n = unless_refused c (record { value = bits_at s c.at n; next = cursor_at (onward s c.at n) })
+
+-- u(n) of at most 8 bits, as a byte
+unfoldable pub byte_read : List ℕ → Cursor → ℕ → ByteRead
+byte_read s c n = record { value = (u_read s c n).value; next = (u_read s c n).next }
 
 -- a run of zero bits ends at a 1 bit and at the end
 unfoldable pub stops : List ℕ → ℕ → Bool

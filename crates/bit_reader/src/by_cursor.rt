@@ -1,10 +1,10 @@
 // The readers over a cursor by value, as C calls them. A refusal sticks: behind it they give 0 and leave the cursor.
 ghost use Rattle.std.specs.Prelude.{◌≡◌, min};
 ghost use Rattle.refusal.specs.Numbers.{refused};
-ghost use Rattle.bit_reader.specs.Reading.{u_read, ue_read, se_read, trailing_read};
+ghost use Rattle.bit_reader.specs.Reading.{u_read, byte_read, ue_read, se_read, trailing_read};
 ghost use Rattle.bit_reader.specs.Gives.{reader_at};
 
-use super::{BitReader, BitsRead, Cursor, SignedRead};
+use super::{BitReader, BitsRead, ByteRead, Cursor, SignedRead};
 use refusal::Refusal;
 
 impl Cursor {
@@ -47,6 +47,34 @@ pub fn u(s: &[u8], c: Cursor, n: u32) -> BitsRead
         value,
         next: Cursor::behind(r, Ok(value)),
     }
+}
+
+// u(n) of at most 8 bits; more are read as 8.
+#[tactic(auto, unfolding(crate::specs::Reading::byte_read, crate::specs::Reading::u_read, crate::specs::Reading::unless_refused))]
+pub fn small_u(s: &[u8], c: Cursor, n: u32) -> ByteRead
+    ensures { result ≡ byte_read s.now c (min n 8) }
+{
+    if c.refused != 0 {
+        return ByteRead { value: 0, next: c };
+    }
+    let mut r = c.reader(s);
+    let value = r.small_u(n);
+    let next = Cursor::behind(r, Ok(value));
+    ByteRead { value, next }
+}
+
+// u(1).
+#[tactic(auto, unfolding(crate::specs::Reading::byte_read, crate::specs::Reading::u_read, crate::specs::Reading::unless_refused))]
+pub fn flag(s: &[u8], c: Cursor) -> ByteRead
+    ensures { result ≡ byte_read s.now c 1 }
+{
+    if c.refused != 0 {
+        return ByteRead { value: 0, next: c };
+    }
+    let mut r = c.reader(s);
+    let value = r.flag();
+    let next = Cursor::behind(r, Ok(value));
+    ByteRead { value, next }
 }
 
 // ue(v).

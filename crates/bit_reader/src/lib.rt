@@ -12,7 +12,7 @@ use refusal::Refusal;
 
 pub mod by_cursor;
 
-pub use by_cursor::{rbsp_trailing_bits, se, u, ue};
+pub use by_cursor::{flag, rbsp_trailing_bits, se, small_u, u, ue};
 
 // Reads from bit `bit_pos` on, counted from the high bit of the first byte.
 #[derive(Clone, Copy)]
@@ -33,6 +33,13 @@ pub struct Cursor {
 #[derive(Clone, Copy)]
 pub struct BitsRead {
     pub value: u32,
+    pub next: Cursor,
+}
+
+#[repr(C)]
+#[derive(Clone, Copy)]
+pub struct ByteRead {
+    pub value: u8,
     pub next: Cursor,
 }
 

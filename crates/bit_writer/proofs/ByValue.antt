@@ -44,6 +44,11 @@ module _ (s : Sink) (o l : List ℕ) {v w : BitWriter} {t : Sink} (from : v ≡ 
   bits-kept bs e q =
       fed bs s.refused (e ∙ sym (feed_on (written v o) bs refl)) q ∙ sym (feed-refusal bs (sink_over s o) s.refused) ∙ sym (play-bits (sink_over s o) bs)
 
+  pub finish-kept : written w l ≡ finished (written v o) → t ≡ sink_of w s.refused → sink_over t l ≡ finished (sink_over s o)
+  finish-kept e q =
+      over finished s.refused e q ∙ ap (λ (x : Writing). with_refusal x s.refused) (finished-refusal (sink_over s o) 0)
+      ∙ sym (finished-refusal (sink_over s o) s.refused)
+
   pub close-kept : written w l ≡ closed (written v o) → t ≡ sink_of w s.refused → sink_over t l ≡ closed (sink_over s o)
   close-kept e q =
       over closed s.refused e q ∙ ap (λ (x : Writing). with_refusal x s.refused) (closed-refusal (sink_over s o) 0)

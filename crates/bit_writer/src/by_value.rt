@@ -5,8 +5,8 @@ ghost use Rattle.codes.specs.Bits.{to_bits};
 ghost use Rattle.codes.specs.Bytes.{bit_list};
 ghost use Rattle.codes.specs.ExpGolomb.{ue_code};
 ghost use Rattle.codes.specs.Symbols.{putting, checked};
-ghost use Rattle.codes.specs.Coded.{ue_symbols, se_symbols};
-ghost use Rattle.bit_writer.specs.Writing.{fresh, sink_over, play, closed};
+ghost use Rattle.codes.specs.Coded.{flag_bit, ue_symbols, se_symbols};
+ghost use Rattle.bit_writer.specs.Writing.{fresh, sink_over, play, trailing_bits, finished, closed};
 ghost use Rattle.bit_writer.specs.Written.{writer_of, sink_of};
 ghost use Rattle.bit_writer.specs.Answers.{answer_of};
 
@@ -56,6 +56,14 @@ impl Sink {
         Sink::of(w, self.refused)
     }
 
+    pub fn put_flag(self, out: &mut [u8], v: u8) -> Sink
+        ensures { sink_over result out.new ≡ play (sink_over self out.old) (putting (flag_bit v ∷ [])) }
+    {
+        let mut w = self.writer();
+        w.put_flag(out, v);
+        Sink::of(w, self.refused)
+    }
+
     pub fn put_bits(self, out: &mut [u8], value: u32, n: u32) -> Sink
         ensures { sink_over result out.new
             ≡ play (sink_over self out.old) (putting (to_bits (min n 32) value)) }
@@ -99,6 +107,23 @@ impl Sink {
         ensures { sink_over result out.new ≡ play (sink_over self out.old) (se_symbols v) }
     {
         self.put_tested(out, code_num(v))
+    }
+
+    pub fn put_trailing(self, out: &mut [u8]) -> Sink
+        ensures { sink_over result out.new
+            ≡ play (sink_over self out.old) (putting (trailing_bits self.have)) }
+    {
+        let mut w = self.writer();
+        w.put_trailing(out);
+        Sink::of(w, self.refused)
+    }
+
+    pub fn finish(self, out: &mut [u8]) -> Sink
+        ensures { sink_over result out.new ≡ finished (sink_over self out.old) }
+    {
+        let mut w = self.writer();
+        w.finish(out);
+        Sink::of(w, self.refused)
     }
 
     pub fn close(self, out: &mut [u8]) -> Sink
