@@ -66,7 +66,7 @@ uncounted-over es total e = split (leb (sum (explicit_sizes es)) total) e
 
 -- ---- the pass
 -- the size that repeats behind these, after one of size u
-uniform_after : ℕ → List ℕ → ℕ
+pub uniform_after : ℕ → List ℕ → ℕ
 uniform_after u [] = u
 uniform_after u (e ∷ es) = uniform_after (suc e) es
 
@@ -81,18 +81,18 @@ after_none [] = refl
 after_none (e ∷ es) = after-some e es
 
 -- i sizes are counted; with those that are left they make the whole
-record Counting (whole left : List ℕ) (i uniform taken : ℕ) : Type 0 where
-  few : i ≤ taken
-  small : taken ≤ i * 4294967295
+pub record Counting (whole left : List ℕ) (i uniform taken : ℕ) : Type 0 where
+  pub few : i ≤ taken
+  pub small : taken ≤ i * 4294967295
   counts : length whole ≡ i + length left
   repeats : uniform_size whole ≡ uniform_after uniform left
   takes : sum (explicit_sizes whole) ≡ taken + sum (explicit_sizes left)
 
-counting-begins : (es : List ℕ) → Counting es es 0 1 0
+pub counting-begins : (es : List ℕ) → Counting es es 0 1 0
 counting-begins es =
     record { few = omega arith; small = omega arith; counts = omega arith; repeats = sym (after_none es); takes = omega arith }
 
-counting_more : (whole left : List ℕ) (i uniform taken v w : ℕ) → v < 4294967295 → w ≡ v + 1 → Counting whole (v ∷ left) i uniform taken
+pub counting_more : (whole left : List ℕ) (i uniform taken v w : ℕ) → v < 4294967295 → w ≡ v + 1 → Counting whole (v ∷ left) i uniform taken
     → Counting whole left (i + 1) (v + 1) (taken + w)
 unfolding sum explicit_sizes uniform_after
 counting_more whole left i uniform taken v w l e k =
@@ -104,7 +104,7 @@ counting_more whole left i uniform taken v w l e k =
       takes = omega (arith, k.takes);
     }
 
-counting-ends : (whole : List ℕ) (i uniform taken : ℕ) → Counting whole [] i uniform taken → Counted whole i uniform taken
+pub counting-ends : (whole : List ℕ) (i uniform taken : ℕ) → Counting whole [] i uniform taken → Counted whole i uniform taken
 unfolding sum explicit_sizes uniform_after
 counting-ends whole i uniform taken k = record { count_is = omega (arith, k.counts); uniform_is = k.repeats; taken_is = omega (arith, k.takes) }
 

@@ -1,4 +1,5 @@
 pub mod ListReads
 pub mod Sizes
 pub mod Axis
+pub mod ByCursor
 pub mod Examples

@@ -15,6 +15,7 @@ use pps_record::groups::{Head, PictureHeaderFlags, PictureKind, References};
 use pps_record::{VvcPpsConfWinOffsets, VvcPpsScalingWinOffsets};
 use refusal::Refusal;
 
+pub mod by_cursor;
 pub mod fields;
 pub mod lists;
 

@@ -17,7 +17,7 @@ use tables::places::put;
 use tile_sizes::uniform_sizes;
 
 // Place from + i of the table becomes v; nothing, where the table is shorter.
-fn store(table: &mut [u32], from: usize, i: u32, v: u32)
+pub(crate) fn store(table: &mut [u32], from: usize, i: u32, v: u32)
     ensures { table.new ≡ set table.old (from + i) v }
 {
     if let Some(place) = from.checked_add(i as usize) {
@@ -35,7 +35,7 @@ pub struct AxisRead {
 }
 
 // The sizes of an axis, of which the explicit ones take so many CTBs.
-fn axis_read(count: u32, uniform: u32, taken: u64, total: CtbCount) -> AxisRead
+pub(crate) fn axis_read(count: u32, uniform: u32, taken: u64, total: CtbCount) -> AxisRead
     requires { count ≤ taken }
     ensures { (es : List ℕ) → Counted es count uniform taken → result ≡ axis_of es total.0 }
 {
