@@ -34,7 +34,7 @@ going e s c h = cases (eqb c.refused 0) refl
   where
     cases : (b : Bool) → eqb c.refused 0 ≡ b → c.refused ≡ 0
     cases true q = eqb-true c.refused 0 q
-    cases false q = sym (ap (λ (x : Cursor). x.refused) (e.stuck s c (eqb-false c.refused 0 q))) ∙ h
+    cases false q = sym (ap (λ (x : Cursor). x.refused) (e.stuck refl s c (eqb-false c.refused 0 q))) ∙ h
 
 coded_none : (g : Grid) (f : SliceFlags) (s : List ℕ) (c : Cursor) → ((coded_slices g f).read s c).next.refused ≡ 0 → coded_left g f s c ≡ []
 unfolding coded_left or_else

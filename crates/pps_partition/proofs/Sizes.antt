@@ -88,10 +88,10 @@ module _ (W H : ℕ) (s : List ℕ) where
     stuck_rows h = stays-stuck (demanded-on _ 10 refl h) h
 
     stuck_columns : Stuck columns_at.next → Stuck (counted columns_at rows_at)
-    stuck_columns h = stuck_rows (stays-stuck (ue.stuck s columns_at.next h) h)
+    stuck_columns h = stuck_rows (stays-stuck (ue.stuck refl s columns_at.next h) h)
 
     stuck_ctu : Stuck ctu_at.next → Stuck (counted columns_at rows_at)
-    stuck_ctu h = stuck_columns (stays-stuck (ue.stuck s ctu_at.next h) h)
+    stuck_ctu h = stuck_columns (stays-stuck (ue.stuck refl s ctu_at.next h) h)
 
     -- there are no more rows than a table of the limit holds
     pub rows_few : length (parse (tile_sizes W H) s c).value.pps_tile_row_height_minus1 ≤ max_tiles

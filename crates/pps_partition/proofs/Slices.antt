@@ -97,7 +97,7 @@ module _ (g : Grid) where
       sym (rw (slices_at s c, left_at s c, none.0, none.1))
 
   pub sliced-none : (s : List ℕ) (c : Cursor) → Stuck c → (t : SliceTables) → t ≡ slices_left t 0 0 (parse (slicing g) s c).value.rect_slices (slicing_left g s c)
-  sliced-none s c h = unsliced s c (stays-stuck (parse-stuck (slice_flags (several g)) s c h) h)
+  sliced-none s c h = unsliced s c (stays-stuck (parse-stuck (slice_flags (several g)) refl s c h) h)
 
   module _ (several' : Bool) (S : several' ≡ several g) {p : BitReader} where
     pub no_flags : {q : BitReader} {e : Refusal} → Gives (held_as flags_kept (parse (slice_flags several'))) p q (Err e) → Gives (held_as slicing_kept (parse (slicing g))) p q (Err e)

@@ -121,7 +121,7 @@ module _ (W H : ℕ) where
 
   sliced-stuck : (t : TileSizes) (s : List ℕ) (c : Cursor) → ((grid_tested W H t c).refused ≡ 0 → ⊥) → (sliced_at t s c).next ≡ grid_tested W H t c
   unfolding sliced_at
-  sliced-stuck t s c h = parse-stuck (slicing (grid_from W H t)) s (grid_tested W H t c) h
+  sliced-stuck t s c h = parse-stuck (slicing (grid_from W H t)) refl s (grid_tested W H t c) h
 
   pub tested-stuck : (t : TileSizes) (c : Cursor) → (c.refused ≡ 0 → ⊥) → grid_tested W H t c ≡ c
   unfolding grid_tested

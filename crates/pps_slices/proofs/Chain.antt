@@ -39,7 +39,7 @@ module _ {R A : Type 0} {d : Syntax R} {read : List ℕ → Cursor → Parsed A}
   refused_there {p} {r} {e} g =
       let y : Parsed A = read p.bytes.now (cursor_of p) in
       let is : refusal (cursor_of r) (number e) ≡ y.next = refused_back g in
-      let whole : (parse d p.bytes.now (cursor_of p)).next ≡ y.next = ap (λ (z : Parsed R). z.next) (b.splits p.bytes.now (cursor_of p)) ∙ parse-stuck (k y.value) p.bytes.now y.next (not-0 e r.bit_pos is) in
+      let whole : (parse d p.bytes.now (cursor_of p)).next ≡ y.next = ap (λ (z : Parsed R). z.next) (b.splits p.bytes.now (cursor_of p)) ∙ parse-stuck (k y.value) refl p.bytes.now y.next (not-0 e r.bit_pos is) in
       record { gives = refuses g.bytes (is ∙ sym whole) }
 
 -- ---- what was held in another form

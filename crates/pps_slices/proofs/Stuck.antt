@@ -32,7 +32,7 @@ module _ {A : Type 0} (e : Element A) (s : List ℕ) where
   pub many-stuck : (count n : ℕ) (c : Cursor) → Stuck c → (many count e n).read s c ≡ parsed [] c
   unfolding many
   many-stuck zero n c h = refl
-  many-stuck (suc k) n c h = let here = e.stuck s c h in rw (ne_eqb (e.read s c).next.refused 0 (stays-stuck here h)) (ap (parsed []) here)
+  many-stuck (suc k) n c h = let here = e.stuck refl s c h in rw (ne_eqb (e.read s c).next.refused 0 (stays-stuck here h)) (ap (parsed []) here)
 
   pub list-stuck : (on : Bool) (count n m : ℕ) (c : Cursor) → Stuck c → (or_else on (many count e n) (none m)).read s c ≡ parsed [] c
   unfolding or_else
@@ -56,7 +56,7 @@ module _ (g : Grid) (deltas : Bool) (N : ℕ) (k : Position) (s : List ℕ) wher
       let split = split_coded w h row in
       let one : Element ℕ = limited ue (λ v. ltb v row) 16 (lit< tt) in
       let count : Element ℕ = or_else split one (absent sameℕ 0 0) in
-      let here = demanded-on (not split || leb (count.read s c).value (N - k.slice + 1)) 17 (count.stuck s c z) z in
+      let here = demanded-on (not split || leb (count.read s c).value (N - k.slice + 1)) 17 (count.stuck refl s c z) z in
       ap (λ (r : Parsed (List ℕ)). r.value) (list-stuck one s split (count.read s c).value 26 0 _ (stays-stuck here z))
 
   pub height-stuck : (w : ℕ) (c : Cursor) → Stuck c → heights_of (parse (slice_height g deltas N k w) s c) ≡ []
@@ -64,13 +64,13 @@ module _ (g : Grid) (deltas : Bool) (N : ℕ) (k : Position) (s : List ℕ) wher
   height-stuck w c z =
       let inherited = inherited_height (columns g) (rows g) k.tile k.preceding_height_minus1 in
       let height : Element ℕ = or_else (height_coded (columns g) (rows g) deltas k.tile) ue (absent sameℕ inherited 0) in
-      split-stuck w (height.read s c).value _ (stays-stuck (demanded-on _ 15 (height.stuck s c z) z) z)
+      split-stuck w (height.read s c).value _ (stays-stuck (demanded-on _ 15 (height.stuck refl s c z) z) z)
 
   pub entry-stuck : (c : Cursor) → Stuck c → heights_of (parse (rect_slice g deltas N k) s c) ≡ []
   unfolding rect_slice parse ◌>>=◌
   entry-stuck c z =
       let width : Element ℕ = ue_if (width_coded (columns g) k.tile) in
-      height-stuck (width.read s c).value _ (stays-stuck (demanded-on _ 15 (width.stuck s c z) z) z)
+      height-stuck (width.read s c).value _ (stays-stuck (demanded-on _ 15 (width.stuck refl s c z) z) z)
 
 -- ---- the loop
 module _ (g : Grid) (deltas : Bool) (N : ℕ) (k : Position) (s : List ℕ) (c : Cursor) (stuck : Stuck c) where
@@ -82,7 +82,7 @@ module _ (g : Grid) (deltas : Bool) (N : ℕ) (k : Position) (s : List ℕ) (c :
       cases : (b : Bool) → ltb k.slice N ≡ b → ((turns g deltas N (suc fuel) k).read s c ≡ parsed [] c) × (refused_from g deltas N (suc fuel) k s c ≡ [])
       cases false e = turns-end g deltas N s c k (suc fuel) e
       cases true e =
-          let next = parse-stuck (rect_slice g deltas N k) s c stuck in
+          let next = parse-stuck (rect_slice g deltas N k) refl s c stuck in
           let x = turns_stop g deltas N s c k fuel e (stays-stuck next stuck) in
           (x.0 ∙ ap (parsed []) next, x.1 ∙ entry-stuck g deltas N k s c stuck)
 

@@ -60,14 +60,14 @@ module _ {R : Type 0} {p r : BitReader} {e : Refusal} where
   stop {A} {m} {k = k} f =
       let y = m.read p.bytes.now (cursor_of p) in
       let is : refusal (cursor_of r) (number e) ≡ y.next = refused_back f in
-      record { gives = refuses f.bytes (is ∙ sym (parse-stuck (k y.value) p.bytes.now y.next (not-0 e r.bit_pos is))) }
+      record { gives = refuses f.bytes (is ∙ sym (parse-stuck (k y.value) refl p.bytes.now y.next (not-0 e r.bit_pos is))) }
 
 -- a test that failed
 pub fails : {R : Type 0} {p : BitReader} {e : Refusal} {ok : Bool} {n : ℕ} {l : 0 < n} {k : Syntax R} → ok ≡ false → number e ≡ n → Follows (on_reading ok n l k) p p (Err e)
 unfolding parse
 fails {p = p} {e = e} {ok = ok} {n = n} {k = k} f h =
     let is : refusal (cursor_of p) (number e) ≡ demanded ok n (cursor_of p) = rw h (sym (demanded-false ok n (cursor_of p) f refl)) in
-    record { gives = refuses refl (is ∙ sym (parse-stuck k p.bytes.now (demanded ok n (cursor_of p)) (not-0 e p.bit_pos is))) }
+    record { gives = refuses refl (is ∙ sym (parse-stuck k refl p.bytes.now (demanded ok n (cursor_of p)) (not-0 e p.bit_pos is))) }
 
 -- the end
 pub end : {R : Type 0} {p : BitReader} {v : R} → Follows (done v) p p (Ok v)

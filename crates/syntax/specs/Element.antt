@@ -1,6 +1,6 @@
 -- One element of a syntax, with what reading and writing make of it and the laws that tie the two.
 -- An element is a syntax element of H.266 (a flag, a u(n), a ue(v), …), or a whole syntax structure that is used as one.
-use Rattle.std.specs.Prelude.{ℕ, ◌≡◌, List, Bool, true}
+use Rattle.std.specs.Prelude.{ℕ, ◌≡◌, refl, List, Bool, true}
 use Rattle.codes.specs.Bits.{Binary}
 use Rattle.codes.specs.Holds.{Holds}
 use Rattle.codes.specs.Symbols.{Symbol, refusal_in, bits_in}
@@ -15,7 +15,8 @@ pub record Consumed (s : List ℕ) (c d : Cursor) (symbols : List Symbol) (canon
   pub accepted : refusal_in symbols ≡ 0
   pub given : canonical ≡ true
 
-pub record Element (A : Type 0) : Type 0 where
+-- `still` says whether it is known to stand still behind a refusal, which only a reader that returns at once asks for
+pub record ElementOf (still : Bool) (A : Type 0) : Type 0 where
   -- reading, from a byte string at a cursor
   pub read : List ℕ → Cursor → Parsed A
   -- writing a value: the bits that are put and the refusals, in order
@@ -30,4 +31,21 @@ pub record Element (A : Type 0) : Type 0 where
   pub back : (s : List ℕ) (at to : ℕ) (v : A) → refusal_in (symbols v) ≡ 0 → canonical v ≡ true → Holds s at (bits_in (symbols v)) to
       → read s (cursor_at at) ≡ parsed v (cursor_at to)
   -- behind a refusal nothing is read
-  pub stuck : (s : List ℕ) (c : Cursor) → (c.refused ≡ 0 → ⊥) → (read s c).next ≡ c
+  pub stuck : still ≡ true → (s : List ℕ) (c : Cursor) → (c.refused ≡ 0 → ⊥) → (read s c).next ≡ c
+
+-- those of H.266's syntax tables stand still
+abbrev pub Element : Type 0 → Type 0
+Element A = ElementOf true A
+
+-- such an element where it does not matter
+abbrev pub any : {still : Bool} {A : Type 0} → Element A → ElementOf still A
+any e =
+    record {
+      read = e.read;
+      symbols = e.symbols;
+      canonical = e.canonical;
+      binary = e.binary;
+      taken = e.taken;
+      back = e.back;
+      stuck = λ t. e.stuck refl;
+    }

@@ -14,7 +14,7 @@ use Rattle.bit_reader.specs.Laws.{demanded-true, demanded-refused, ue-small}
 use Rattle.bit_reader.specs.ReadBack.{u-reads-back, ue-reads-back, se-reads-back}
 use Rattle.bit_reader.proofs.Stuck.{u_stuck, ue_stuck, se_stuck}
 use Rattle.bit_reader.specs.Took.{Going, Took, u-took, ue-took, se-took, se-small}
-use Rattle.syntax.specs.Element.{parsed, Consumed, Element}
+use Rattle.syntax.specs.Element.{parsed, Consumed, ElementOf, Element}
 use Rattle.syntax.specs.Round.{took-none, consumed-check, refusal_parts, demanded-going}
 
 -- ---- bits behind a test of writing
@@ -52,7 +52,7 @@ u n e =
       binary = λ v. rw (checked-bits (ltb v (2 ^ n)) e (to_bits n v)) (binary-to_bits n v);
       taken = λ s c g. let t = u-took s c n g in coded s c _ _ e _ _ t.0 (lt-ltb _ _ t.1) (lt-ltb _ _ t.1);
       back = λ s at to v r c h. ap bits_parsed (u-reads-back s at to n v (ltb-true _ _ c) (held (ltb v (2 ^ n)) e (to_bits n v) h));
-      stuck = λ s c h. u_stuck s c n h;
+      stuck = λ t s c h. u_stuck s c n h;
     }
 
 -- ---- a flag, u(1). Writing takes every number but 0 for 1
@@ -84,7 +84,7 @@ flag =
       back = λ s at to v r c h.
           let l = ltb-true _ _ c in
           ap bits_parsed (u-reads-back s at to 1 v l (subst (λ (l : List ℕ). Holds s at l to) (bits_in_putting (flag_bit v ∷ []) ∙ sym (flag-bits v l)) h));
-      stuck = λ s c h. u_stuck s c 1 h;
+      stuck = λ t s c h. u_stuck s c 1 h;
     }
 
 -- ---- ue(v) and se(v). Writing refuses what has no code of 32 bits with 25
@@ -107,7 +107,7 @@ ue =
       binary = λ v. rw (checked-bits (ltb v 4294967295) 25 (ue_code v)) (ue-binary v);
       taken = λ s c g. coded s c _ _ 25 _ _ (ue-took s c g) (lt-ltb _ _ (ue-small s c)) refl;
       back = λ s at to v r c h. ap bits_parsed (ue-reads-back s at to v (ue_canon v r) (held (ltb v 4294967295) 25 (ue_code v) h));
-      stuck = ue_stuck;
+      stuck = λ t. ue_stuck;
     }
 
 abbrev pub se : Element ℤ
@@ -119,11 +119,11 @@ se =
       binary = λ v. rw (checked-bits (ltb (code_num v) 4294967295) 25 (se_code v)) (se-binary v);
       taken = λ s c g. coded s c _ _ 25 _ _ (se-took s c g) (lt-ltb _ _ (se-small s c)) refl;
       back = λ s at to v r c h. ap signed_parsed (se-reads-back s at to v (se_canon v r) (held (ltb (code_num v) 4294967295) 25 (se_code v) h));
-      stuck = se_stuck;
+      stuck = λ t. se_stuck;
     }
 
 -- ---- an element whose value must pass a test: in reading behind it, in writing before it
-pub limited-taken : {A : Type 0} (e : Element A) (ok : A → Bool) (n : ℕ) → 0 < n → (s : List ℕ) (c : Cursor)
+pub limited-taken : {still : Bool} {A : Type 0} (e : ElementOf still A) (ok : A → Bool) (n : ℕ) → 0 < n → (s : List ℕ) (c : Cursor)
     → Going s (demanded (ok (e.read s c).value) n (e.read s c).next)
     → Consumed s c (demanded (ok (e.read s c).value) n (e.read s c).next) (check (ok (e.read s c).value) n ++ e.symbols (e.read s c).value) (e.canonical (e.read s c).value)
 limited-taken e ok n l s c g =
@@ -132,8 +132,8 @@ limited-taken e ok n l s c g =
     let a = demanded-going s (ok v) n d l g in
     rw (demanded-true (ok v) n d a.0) (consumed-check s c d (ok v) n _ _ a.0 (e.taken s c a.1))
 
-abbrev pub limited : {A : Type 0} → Element A → (A → Bool) → (n : ℕ) → 0 < n → Element A
-limited {A} e ok n l =
+abbrev pub limited : {still : Bool} {A : Type 0} → ElementOf still A → (A → Bool) → (n : ℕ) → 0 < n → ElementOf still A
+limited {A = A} e ok n l =
     record {
       read = λ s c. parsed (e.read s c).value (demanded (ok (e.read s c).value) n (e.read s c).next);
       symbols = λ v. check (ok v) n ++ e.symbols v;
@@ -145,7 +145,7 @@ limited {A} e ok n l =
           let bits : bits_in (check (ok v) n ++ e.symbols v) ≡ bits_in (e.symbols v) = bits_in_append (check (ok v) n) (e.symbols v) ∙ ap (λ (x : List ℕ). x ++ bits_in (e.symbols v)) (bits_in_check (ok v) n) in
           let b = e.back s at to v a.1 c (subst (λ (x : List ℕ). Holds s at x to) bits h) in
           rw (b, demanded-true (ok v) n (cursor_at to) (check-held (ok v) n l a.0));
-      stuck = λ s c h. ap (demanded (ok (e.read s c).value) n) (e.stuck s c h) ∙ demanded-refused (ok (e.read s c).value) n c h;
+      stuck = λ t s c h. ap (demanded (ok (e.read s c).value) n) (e.stuck t s c h) ∙ demanded-refused (ok (e.read s c).value) n c h;
     }
 
 -- ---- an element with no bits
@@ -178,7 +178,7 @@ inferred {A} same value ok fit n =
       back = λ s at to v r c h.
           let none : Holds s at [] to = subst (λ (l : List ℕ). Holds s at l to) (bits_in_check (ok v) n) h in
           ap₂ (λ (x : A) (y : ℕ). parsed x (cursor_at y)) (sym (same.is v value c)) (sym (add-zero at) ∙ none.reaches);
-      stuck = λ s c h. refl;
+      stuck = λ t s c h. refl;
     }
 
 -- a flag that is set
@@ -193,14 +193,14 @@ one_set true = refl
 one_set false = refl
 
 -- ---- one element or another, by a condition
-unfoldable pub or_else : {A : Type 0} → Bool → Element A → Element A → Element A
+unfoldable pub or_else : {still : Bool} {A : Type 0} → Bool → ElementOf still A → ElementOf still A → ElementOf still A
 or_else true x y = x
 or_else false x y = y
 
-pub or-true : {A : Type 0} (on : Bool) (x y : Element A) → on ≡ true → or_else on x y ≡ x
+pub or-true : {still : Bool} {A : Type 0} (on : Bool) (x y : ElementOf still A) → on ≡ true → or_else on x y ≡ x
 unfolding or_else
 or-true on x y e = rw e
 
-pub or-false : {A : Type 0} (on : Bool) (x y : Element A) → on ≡ false → or_else on x y ≡ y
+pub or-false : {still : Bool} {A : Type 0} (on : Bool) (x y : ElementOf still A) → on ≡ false → or_else on x y ≡ y
 unfolding or_else
 or-false on x y e = rw e

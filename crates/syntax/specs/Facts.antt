@@ -1,17 +1,17 @@
 -- What it says of a record that writing it is refused nowhere and that reading could have given it: a fact for each element and each test, in order.
-use Rattle.std.specs.Prelude.{◌≡◌, true}
+use Rattle.std.specs.Prelude.{◌≡◌, Bool, true}
 use Rattle.codes.specs.Symbols.{refusal_in, check}
-use Rattle.syntax.specs.Syntax.{Syntax, done, element, on_writing, on_reading, symbols_for, refusal_for, canonical_for}
+use Rattle.syntax.specs.Syntax.{SyntaxOf, done, element, on_writing, on_reading, symbols_for, refusal_for, canonical_for}
 use Rattle.syntax.specs.Round.{and_parts, refusal_parts}
 
-module _ {R : Type 0} where
-  unfoldable pub Facts : Syntax R → R → Type 0
+module _ {still : Bool} {R : Type 0} where
+  unfoldable pub Facts : SyntaxOf still R → R → Type 0
   Facts (done e) r = Unit {0}
   Facts (element e place k) r = ((refusal_in (e.symbols (place r)) ≡ 0) × (e.canonical (place r) ≡ true)) × Facts (k (place r)) r
   Facts (on_writing test n k) r = (refusal_in (check (test r) n) ≡ 0) × Facts k r
   Facts (on_reading ok n l k) r = (ok ≡ true) × Facts k r
 
-  pub facts : (d : Syntax R) (r : R) → refusal_for d r ≡ 0 → canonical_for d r ≡ true → Facts d r
+  pub facts : (d : SyntaxOf still R) (r : R) → refusal_for d r ≡ 0 → canonical_for d r ≡ true → Facts d r
   unfolding Facts symbols_for canonical_for
   facts (done e) r h c = tt
   facts (element e place k) r h c =

@@ -12,7 +12,7 @@ use Rattle.codes.specs.Symbols.{Symbol, refusal_in, bits_in, check, bits_in_appe
 use Rattle.bit_reader.specs.declared.Cursor.{Cursor}
 use Rattle.bit_reader.specs.Reading.{cursor_at}
 use Rattle.bit_reader.specs.Took.{Going}
-use Rattle.syntax.specs.Element.{Parsed, parsed, Consumed, Element}
+use Rattle.syntax.specs.Element.{Parsed, parsed, Consumed, ElementOf, Element}
 use Rattle.syntax.specs.Elements.{or_else}
 use Rattle.syntax.specs.Round.{and_parts, took-none, consumed-append, binary-symbols, refusal_parts}
 
@@ -37,8 +37,8 @@ module _ {A : Type 0} where
   none-back s at to [] c h = ap (λ (y : ℕ). parsed [] (cursor_at y)) (sym (add-zero at) ∙ h.reaches)
   none-back s at to (x ∷ xs) c h = absurd (not-true c)
 
-  abbrev pub none : ℕ → Element (List A)
-  none n =
+  abbrev pub none_of : {still : Bool} → ℕ → ElementOf still (List A)
+  none_of n =
       record {
         read = λ s c. parsed [] c;
         symbols = none_symbols n;
@@ -46,11 +46,14 @@ module _ {A : Type 0} where
         binary = λ l. rw (none-bits n l) tt;
         taken = λ s c g. record { took = rw (bits_in_putting []) (took-none s c g); accepted = refusal-putting []; given = refl };
         back = λ s at to l r c h. none-back s at to l c (subst (λ (x : List ℕ). Holds s at x to) (none-bits n l) h);
-        stuck = λ s c h. refl;
+        stuck = λ t s c h. refl;
       }
 
+  abbrev pub none : ℕ → Element (List A)
+  none n = none_of n
+
   -- ---- one, and more that may depend on it. Reading stops at a refusal; writing a list that is too short is refused with n
-  module _ (e : Element A) (rest : A → Element (List A)) (n : ℕ) where
+  module _ {still : Bool} (e : ElementOf still A) (rest : A → ElementOf still (List A)) (n : ℕ) where
     abbrev pub cons_more : Bool → A → List ℕ → Cursor → Parsed (List A)
     cons_more true v s c = parsed (v ∷ ((rest v).read s c).value) ((rest v).read s c).next
     cons_more false v s c = parsed [] c
@@ -96,22 +99,22 @@ module _ {A : Type 0} where
         let q = (rest x).back s m to xs a.1 b.1 (holds-right bs cs t) in
         rw (p, q)
 
-    pub cons-stuck : (s : List ℕ) (c : Cursor) → (c.refused ≡ 0 → ⊥) → (cons_read s c).next ≡ c
-    cons-stuck s c h = more (eqb (e.read s c).next.refused 0) refl
+    pub cons-stuck : still ≡ true → (s : List ℕ) (c : Cursor) → (c.refused ≡ 0 → ⊥) → (cons_read s c).next ≡ c
+    cons-stuck t s c h = more (eqb (e.read s c).next.refused 0) refl
       where
-        more : (t : Bool) → eqb (e.read s c).next.refused 0 ≡ t → (cons_more t (e.read s c).value s (e.read s c).next).next ≡ c
-        more true q = absurd (h (sym (ap (λ (d : Cursor). d.refused) (e.stuck s c h)) ∙ eqb-true _ _ q))
-        more false q = e.stuck s c h
+        more : (u : Bool) → eqb (e.read s c).next.refused 0 ≡ u → (cons_more u (e.read s c).value s (e.read s c).next).next ≡ c
+        more true q = absurd (h (sym (ap (λ (d : Cursor). d.refused) (e.stuck t s c h)) ∙ eqb-true _ _ q))
+        more false q = e.stuck t s c h
 
-    abbrev pub cons : Element (List A)
+    abbrev pub cons : ElementOf still (List A)
     cons = record { read = cons_read; symbols = cons_symbols; canonical = cons_canonical; binary = cons-binary; taken = cons-taken; back = cons-back; stuck = cons-stuck }
 
   -- ---- a list of the given length; writing another length is refused with n
-  unfoldable pub many : ℕ → Element A → ℕ → Element (List A)
-  many zero e n = none n
+  unfoldable pub many : {still : Bool} → ℕ → ElementOf still A → ℕ → ElementOf still (List A)
+  many zero e n = none_of n
   many (suc k) e n = cons e (λ _. many k e n) n
 
-  pub many-length : (k : ℕ) (e : Element A) (n : ℕ) (l : List A) → (many k e n).canonical l ≡ true → length l ≡ k
+  pub many-length : {still : Bool} (k : ℕ) (e : ElementOf still A) (n : ℕ) (l : List A) → (many k e n).canonical l ≡ true → length l ≡ k
   unfolding many
   many-length zero e n [] h = refl
   many-length zero e n (x ∷ l) h = absurd (not-true h)
@@ -119,6 +122,6 @@ module _ {A : Type 0} where
   many-length (suc k) e n (x ∷ l) h = ap suc (many-length k e n l (and_parts (e.canonical x) ((many k e n).canonical l) h).1)
 
   -- ---- a list whose length and parts follow from a state: while `more` holds, at most `fuel` parts
-  unfoldable pub walk : {S : Type 0} → ℕ → (S → Bool) → (S → Element A) → (S → A → S) → ℕ → S → Element (List A)
-  walk zero more part next n x = none n
-  walk (suc fuel) more part next n x = or_else (more x) (cons (part x) (λ a. walk fuel more part next n (next x a)) n) (none n)
+  unfoldable pub walk : {still : Bool} {S : Type 0} → ℕ → (S → Bool) → (S → ElementOf still A) → (S → A → S) → ℕ → S → ElementOf still (List A)
+  walk zero more part next n x = none_of n
+  walk (suc fuel) more part next n x = or_else (more x) (cons (part x) (λ a. walk fuel more part next n (next x a)) n) (none_of n)

@@ -11,7 +11,7 @@ use Rattle.bit_reader.specs.declared.Cursor.{Cursor}
 use Rattle.bit_reader.specs.Reading.{refusal, demanded}
 use Rattle.bit_reader.specs.Took.{Going, Took}
 use Rattle.syntax.specs.Element.{Consumed}
-use Rattle.syntax.specs.Syntax.{Syntax, symbols_for, canonical_for}
+use Rattle.syntax.specs.Syntax.{SyntaxOf, symbols_for, canonical_for}
 
 -- ---- symbols put together
 pub and-true : (a b : Bool) → a ≡ true → b ≡ true → (a && b) ≡ true
@@ -53,6 +53,6 @@ demanded-going s false n c h g = absurd (split (eqb c.refused 0) refl g)
     split true e g = omega (arith, g.unrefused)
     split false e g = eqb-false c.refused 0 e g.unrefused
 
-pub record Accounted {R : Type 0} (d : Syntax R) (P : R → Type 0) (s : List ℕ) (c : Cursor) (r : R) (e : Cursor) : Type 0 where
+pub record Accounted {still : Bool} {R : Type 0} (d : SyntaxOf still R) (P : R → Type 0) (s : List ℕ) (c : Cursor) (r : R) (e : Cursor) : Type 0 where
   pub consumed : Consumed s c e (symbols_for d r) (canonical_for d r)
   pub holds : P r

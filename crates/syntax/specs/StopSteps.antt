@@ -5,34 +5,34 @@ use Rattle.std.proofs.Common.{◌∙◌}
 use Rattle.codes.specs.Coded.{only_if}
 use Rattle.codes.specs.Symbols.{Symbol, check}
 use Rattle.bit_writer.specs.Writing.{Writing, play}
-use Rattle.syntax.specs.Syntax.{Syntax, done, on_writing, on_reading, on_both, Placed, ◌>>=◌, symbols_for}
+use Rattle.syntax.specs.Syntax.{SyntaxOf, done, on_writing, on_reading, on_both, PlacedOf, ◌>>=◌, symbols_for}
 use Rattle.bit_writer.specs.Stop.{play_on, on_none, on-append, on-check}
 
-module _ {R : Type 0} where
-  -- the end
-  pub stops-done : (e r : R) (w : Writing) → w ≡ play_on w (symbols_for (done e) r)
-  unfolding symbols_for
-  stops-done e r w = sym (on_none w)
+-- the end
+pub stops-done : {R : Type 0} (e r : R) (w : Writing) → w ≡ play_on w (symbols_for {still = true} (done e) r)
+unfolding symbols_for
+stops-done e r w = sym (on_none w)
 
+module _ {still : Bool} {R : Type 0} where
   -- an element that a call has written
-  pub stops : {A : Type 0} (m : Placed R A) (k : A → Syntax R) (r : R) (w : Writing) {v : Writing} → v ≡ play_on w (m.what.symbols (m.place r))
+  pub stops : {A : Type 0} (m : PlacedOf still R A) (k : A → SyntaxOf still R) (r : R) (w : Writing) {v : Writing} → v ≡ play_on w (m.what.symbols (m.place r))
       → play_on v (symbols_for (k (m.place r)) r) ≡ play_on w (symbols_for (◌>>=◌ m k) r)
   unfolding symbols_for ◌>>=◌
   stops m k r w e = ap (λ (x : Writing). play_on x (symbols_for (k (m.place r)) r)) e ∙ sym (on-append w (m.what.symbols (m.place r)) (symbols_for (k (m.place r)) r))
 
   -- a test that a call has made
-  pub stops-test : (test : R → Bool) (n : ℕ) (k : Syntax R) (r : R) (w : Writing) {v : Writing} → v ≡ play_on w (check (test r) n)
+  pub stops-test : (test : R → Bool) (n : ℕ) (k : SyntaxOf still R) (r : R) (w : Writing) {v : Writing} → v ≡ play_on w (check (test r) n)
       → play_on v (symbols_for k r) ≡ play_on w (symbols_for (on_writing test n k) r)
   unfolding symbols_for
   stops-test test n k r w e = ap (λ (x : Writing). play_on x (symbols_for k r)) e ∙ sym (on-append w (check (test r) n) (symbols_for k r))
 
-  pub stops-both : (ok : Bool) (n : ℕ) (l : 0 < n) (k : Syntax R) (r : R) (w : Writing) {v : Writing} → v ≡ play_on w (check ok n)
+  pub stops-both : (ok : Bool) (n : ℕ) (l : 0 < n) (k : SyntaxOf still R) (r : R) (w : Writing) {v : Writing} → v ≡ play_on w (check ok n)
       → play_on v (symbols_for k r) ≡ play_on w (symbols_for (on_both ok n l k) r)
   unfolding symbols_for
   stops-both ok n l k r w e = ap (λ (x : Writing). play_on x (symbols_for k r)) e ∙ sym (on-append w (check ok n) (symbols_for k r))
 
   -- a test of reading, which writing passes over
-  pub stops_past : (ok : Bool) (n : ℕ) (l : 0 < n) (k : Syntax R) (r : R) (w : Writing) → play_on w (symbols_for k r) ≡ play_on w (symbols_for (on_reading ok n l k) r)
+  pub stops_past : (ok : Bool) (n : ℕ) (l : 0 < n) (k : SyntaxOf still R) (r : R) (w : Writing) → play_on w (symbols_for k r) ≡ play_on w (symbols_for (on_reading ok n l k) r)
   unfolding symbols_for
   stops_past ok n l k r w = refl
 
