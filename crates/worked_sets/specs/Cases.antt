@@ -1,6 +1,6 @@
 -- Worked examples of reading, of the grid, plan and cover questions and of escaping: one table of inputs and what each must come to, and one theorem, computed. What an input comes to is said
 -- by the definitions that the functions' contracts cite.
-use Rattle.std.specs.Prelude.{ℕ, ◌≡◌, refl, List, [], ◌∷◌, map, pos, negsuc, replicate, Result, Ok, Err}
+use Rattle.std.specs.Prelude.{ℕ, ◌≡◌, refl, List, [], ◌∷◌, map, pos, negsuc, length, replicate, Result, Ok, Err}
 use Rattle.bit_reader.specs.Extension.{ones, taken_while_more, extension_bits}
 use Rattle.bit_reader.specs.Reading.{unless_refused, onward, u_read, stops, zeros_at, ue_after, ue_within, ue_read, se_read, trailing_read, demanded}
 use Rattle.codes.specs.Bytes.{bit_at, bits_at, bit_list}
@@ -49,7 +49,8 @@ use Rattle.grid_sizes.specs.Answers.{grid_of_sizes, sizes_for, grid_sizes}
 use Rattle.tile_grid.specs.Answers.{as_tile_grid, grid_answer}
 use Rattle.tile_grid.specs.GridQuestion.{sizes_of, grid_answer_of}
 use Rattle.tile_grid.specs.PlanQuestion.{plan_answer_of}
-use Rattle.tile_grid.specs.Rects.{plan_with}
+use Rattle.tile_grid.specs.Rects.{table_with, plan_with}
+use Rattle.tile_grid.specs.declared.SliceRect.{SliceRect}
 use Rattle.tile_grid.specs.declared.SlicePlan.{SlicePlan}
 use Rattle.tile_grid.specs.declared.TileGrid.{TileGrid}
 use Rattle.tile_sizes.specs.Answers.{slices_in_tile}
@@ -131,8 +132,14 @@ accepts flag first_bit count bits = reads (accepted_pps (picture 1 1 1 no_partit
 abbrev refuses : ℕ → Outcome
 refuses n = reads (refused_pps n) []
 
+-- these slices, number by number
+abbrev rect : ℕ → ℕ → ℕ → ℕ → SliceRect
+rect left top width height =
+    record { left = record { 0 = left }; top = record { 0 = top }; width = record { 0 = width }; height = record { 0 = height } }
+
 abbrev plans : List Slice → Result SlicePlan ℕ
-plans ss = Ok (plan_with ss)
+plans ss =
+    Ok (record { num_slices = length ss; slices = table_with (rect 0 0 0 0) (map (λ (s : Slice). rect s.left s.top s.width s.height) ss) })
 
 abbrev grid_answered : List ℕ → List ℕ → Result TileGrid ℕ
 grid_answered columns rows = as_tile_grid (Ok (grid_of_sizes columns rows))
@@ -184,5 +191,5 @@ cases =
 
 -- every input comes to what is wanted
 pub all-cases : map (λ (e : Example). outcome e.input) cases ≡ map (λ (e : Example). e.wanted) cases
-unfolding cases outcome extension_of slices_of_tiles cover_for places ones taken_while_more extension_bits unless_refused onward u_read stops zeros_at ue_after ue_within ue_read se_read trailing_read demanded bit_at bits_at bit_list signed_of output_after escape_answer escape_out zero_run is_escape needs_escape unescape_from unescape escape_byte escape_run escape_end escape_from escape boundary span first_bad tile_x tile_y tile_row_height in_last_row height_coded inherited_height split_coded split_heights num_slices_in_tile last_slice_of some_at_least default_advance tile_after_delta delta_leaves delta_refused delta_uncodable next_tile next_position size_checks inherited_checks split_checks move_checks entry_checks up_to stacked group_slices plan groups_at groups_at_tile or_at lowest answer lowest_cover cover_of in_ctbs tile_grid explicit_checks axis_checks grid_checks grid_of grid_checks_of slices_coded delta_flag_checks partition_checks from_walk unless layout sum explicit_sizes uniform_size tail_size uniform_sizes axis_sizes among slice_heights_of entry_group last_group after walk answer_of after_fields parse_pps no_partition chroma deblocking partition_from extension_from lengths_fit counts_fit head conf_win scaling_win kind partition partition_of picture_header front back pps extension_for answered read_rbsp before_fields rbsp_of partition_record record_of references rect_slices split_count slice_at slices_from split_total bits_of_delta delta_of_bits subpic_ids flag_over1 record_checks no_tiles picture_layout layout_asked or_else many walk_element ◌>>=◌ parse over sizes_for grid_sizes as_tile_grid grid_answer sizes_of plan_answer_of slices_in_tile
+unfolding cases outcome extension_of slices_of_tiles cover_for places ones taken_while_more extension_bits unless_refused onward u_read stops zeros_at ue_after ue_within ue_read se_read trailing_read demanded bit_at bits_at bit_list signed_of output_after escape_answer escape_out zero_run is_escape needs_escape unescape_from unescape escape_byte escape_run escape_end escape_from escape boundary span first_bad tile_x tile_y tile_row_height in_last_row height_coded inherited_height split_coded split_heights num_slices_in_tile last_slice_of some_at_least default_advance tile_after_delta delta_leaves delta_refused delta_uncodable next_tile next_position size_checks inherited_checks split_checks move_checks entry_checks up_to stacked group_slices plan groups_at groups_at_tile or_at lowest answer lowest_cover cover_of in_ctbs tile_grid explicit_checks axis_checks grid_checks grid_of grid_checks_of slices_coded delta_flag_checks partition_checks from_walk unless layout sum explicit_sizes uniform_size tail_size uniform_sizes axis_sizes among slice_heights_of entry_group last_group after walk answer_of after_fields parse_pps no_partition chroma deblocking partition_from extension_from lengths_fit counts_fit head conf_win scaling_win kind partition partition_of picture_header front back pps extension_for answered read_rbsp before_fields rbsp_of partition_record record_of references rect_slices split_count slice_at slices_from split_total bits_of_delta delta_of_bits subpic_ids flag_over1 record_checks no_tiles picture_layout layout_asked or_else many walk_element ◌>>=◌ parse over sizes_for grid_sizes as_tile_grid grid_answer sizes_of plan_answer_of plan_with slices_in_tile
 all-cases = refl
