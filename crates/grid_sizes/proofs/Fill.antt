@@ -38,7 +38,7 @@ module _ (es whole : List ℕ) (u : ℕ) (old out : List ℕ) (remaining j s : �
   e : s ≡ next_size (drop j es) u remaining
   e = omega (arith, next.1)
 
-  has_room : j < length out
+  pub has_room : j < length out
   has_room =
       omega (
         arith,

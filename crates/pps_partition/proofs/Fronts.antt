@@ -52,7 +52,7 @@ drop-sets n (y ∷ ys) l i h = drop-sets n ys (set l i y) (suc i) (omega arith) 
 abbrev pub room : List ℕ
 room = replicate max_tiles 0
 
-table-long : length room ≡ max_tiles
+pub table-long : length room ≡ max_tiles
 table-long = length-replicate {A = ℕ} max_tiles 0
 
 -- A table t is copied to its front, numbers are read over it there, and the front is copied back: they are stored in t.

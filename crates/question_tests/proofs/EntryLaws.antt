@@ -65,7 +65,7 @@ module _ (C T : ℕ) (d : Bool) (t : ℕ) (e : RectSliceEntry) (hs : List ℕ) w
       split true z = rw (delta-none T t e.delta z) tt
       split false z = rw (delta-tile T t e.delta small z) refl
 
-  moved-by_default : d ≡ false → (x : ℕ) → x ≡ default_advance C t e.width e.height → x ≡ next_tile C d t (entry_with e hs)
+  pub moved-by_default : d ≡ false → (x : ℕ) → x ≡ default_advance C t e.width e.height → x ≡ next_tile C d t (entry_with e hs)
   unfolding next_tile
   moved-by_default q x h = rw q h
 

@@ -90,7 +90,7 @@ module _ {g : Grid} {d : Bool} {N : ℕ} {t : SliceTables} {n slice tile precedi
   pub refusing_ends : n ≤ i → N ≤ slice → 0 ≡ all
   refusing_ends h l = sym (H.is ∙ rw (none_left h) (walk-done g d N H.at (omega (arith, H.stands.slice_is))))
 
-  from-within : from ≤ length t.split_heights
+  pub from-within : from ≤ length t.split_heights
   from-within = omega (arith, H.stands.place_is)
 
   module _ (more : i < n) (e : RectSliceEntry) (hs : List ℕ) (e-is : e ≡ entry_at t i) (hs-is : hs ≡ take (split_count t i) (drop from t.split_heights)) where

@@ -14,7 +14,7 @@ unfolding table_with
 in_front none l = take-append_seam l _
 
 -- a tile lies in as many groups of the table as of those that it holds
-held-groups : (ps : List Group) (cx cy : ℕ) → groups_at (groups_in (map tiles_of ps)) cx cy ≡ groups_at ps cx cy
+pub held-groups : (ps : List Group) (cx cy : ℕ) → groups_at (groups_in (map tiles_of ps)) cx cy ≡ groups_at ps cx cy
 unfolding group_of groups_at
 held-groups [] cx cy = refl
 held-groups (p ∷ ps) cx cy = rw (held-groups ps cx cy)

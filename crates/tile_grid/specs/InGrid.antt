@@ -180,7 +180,7 @@ module _ (r : VvcPps) (t : Lent) where
     asked-absent q = asked-picture ∙ absent-layout q
 
     module _ (there : p.present ≡ 0 → ⊥) where
-      asked-there : layout_asked r t ≡ unless (first_bad checks) (sliced_in grid p t.slices)
+      pub asked-there : layout_asked r t ≡ unless (first_bad checks) (sliced_in grid p t.slices)
       asked-there = asked-picture ∙ there-layout there
 
       -- one of the grid's
@@ -201,7 +201,7 @@ module _ (r : VvcPps) (t : Lent) where
             go fine f q = (f, cc)
             go (refused_with m) f q = absurd (let z : ◌≡◌ {A = ℕ} 0 1 = cc in omega arith)
 
-        asked-in-grid : layout_asked r t ≡ sliced_in grid p t.slices
+        pub asked-in-grid : layout_asked r t ≡ sliced_in grid p t.slices
         unfolding unless
         asked-in-grid = asked-there ∙ rw grid-right.0
 

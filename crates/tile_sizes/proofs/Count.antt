@@ -18,7 +18,7 @@ use Rattle.partition.specs.Sizes.{sum, explicit_sizes, uniform_size, axis_sizes,
 use Rattle.partition.proofs.Sizes.{length-sizes}
 
 -- pieces of at least 1 are no more than the length
-pub pieces_le : (n u : ℕ) → 1 ≤ u → n / u + min 1 (n % u) ≤ n
+pub pieces_le : (n u : ℕ) → 1 ≤ u → n / u + n % u ≤ n
 pieces_le n u h =
     let m : n / u * 1 ≤ n / u * u = mul-le-mul_left (n / u) h in
     omega (arith, m, mul-one (n / u), div-add-mod' n u)
@@ -69,7 +69,7 @@ module _ (es : List ℕ) (total remaining uniform i : ℕ) (h : length es ≤ i)
   unfolding sum explicit_sizes
   nothing_left = rw (drop_of_length-le es h)
 
-  fits-axis : leb (sum (explicit_sizes es)) total ≡ true
+  pub fits-axis : leb (sum (explicit_sizes es)) total ≡ true
   fits-axis = le-leb (sum (explicit_sizes es)) total (omega (arith, nothing_left))
 
   last-is : uniform ≡ uniform_size es
