@@ -1,6 +1,5 @@
 // What the programs say of a NAL unit with a picture parameter set. Each function tells the number of the unit's
-// refusal, or 0; what is printed beside it no contract says. A write that fails ends what is printed, and is passed
-// over.
+// refusal, or 0; what is printed beside it no contract says.
 #![tactic(auto)]
 
 ghost use Rattle.std.specs.Prelude.{◌≡◌};
@@ -12,6 +11,7 @@ mod heading;
 mod input;
 mod marks;
 mod page;
+mod pieces;
 mod report;
 mod scale;
 mod slices;
@@ -20,8 +20,10 @@ mod tiles;
 
 use drawing::Drawing;
 pub use input::{LARGEST, read_full};
+use pieces::Pieces;
 use refusal::Refusal;
 use report::{Report, report_of};
+use std::fmt::Write;
 use text::Info;
 
 // The number of a refusal, 0 where there is none.
@@ -37,7 +39,7 @@ pub fn print_info(rt: &impl Print, nal: &[u8]) -> u8
     ensures { result ≡ refusal_told nal.now }
 {
     let report = report_of(nal);
-    let _ = rt.print(Info(&report));
+    let _ = Pieces(rt).write(Info(&report));
     told(&report)
 }
 
@@ -46,6 +48,6 @@ pub fn print_svg(rt: &impl Print, nal: &[u8]) -> u8
     ensures { result ≡ refusal_told nal.now }
 {
     let report = report_of(nal);
-    let _ = rt.print(Drawing(&report));
+    let _ = Pieces(rt).write(Drawing(&report));
     told(&report)
 }

@@ -34,7 +34,9 @@ impl Report {
     }
 }
 
-// The three questions of a record that was read; none refuses what reading gave (`pps_asked`).
+// The three questions of a record that was read; none refuses what reading gave (`pps_asked`). By itself, so that a
+// unit that is refused needs no stack for them.
+#[inline(never)]
 fn accepted_report(a: AcceptedPps, lent: LentTables<'_>) -> Report {
     let pps = a.pps;
     let sizes = TileGrid::of_record(&pps, lent)
