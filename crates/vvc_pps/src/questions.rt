@@ -57,6 +57,8 @@ const COVER_REFUSED: u8 = 4;
 impl From<Result<TileGrid, Refusal>> for VvcGridAnswer {
     ghost from_gives = { λ answer held. held ≡ grid_held (with_number answer) };
 
+    // By itself, so that its tables do not stand on the stack while the question is answered.
+    #[inline(never)]
     fn from(answer: Result<TileGrid, Refusal>) -> VvcGridAnswer {
         match answer {
             Ok(grid) => {
