@@ -29,8 +29,12 @@ struct Unpartitioned<'a>(&'a Report);
 
 impl fmt::Display for Unpartitioned<'_> {
     fn fmt<W: fmt::Write>(&self, f: &mut fmt::Formatter<W>) -> fmt::Result {
-        write!(f, "picture {} x {}, ", self.0.width, self.0.height)?;
-        write!(f, "not partitioned into tiles")
+        let report = self.0;
+        write!(
+            f,
+            "picture {} x {}, not partitioned into tiles",
+            report.width, report.height
+        )
     }
 }
 
@@ -57,10 +61,10 @@ impl fmt::Display for Picture<'_> {
         let frame = self.frame;
         let slices = report.slices();
         write!(f, "{}", Heading(report))?;
-        writeln!(f, "<g transform='translate(200 1100)'>")?;
+        write!(f, "<g transform='translate(200 1100)'>\n")?;
         write!(f, "{}", Slices { slices, frame })?;
         write!(f, "{}", Tiles { report, frame })?;
         write!(f, "{}", SliceNumbers { slices, frame })?;
-        writeln!(f, "</g>")
+        write!(f, "</g>\n")
     }
 }

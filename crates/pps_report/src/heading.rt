@@ -14,9 +14,9 @@ impl fmt::Display for Heading<'_> {
     fn fmt<W: fmt::Write>(&self, f: &mut fmt::Formatter<W>) -> fmt::Result {
         let legend = legend(self.0.cover);
         write!(f, "{}", Line(Numbers(self.0)))?;
-        writeln!(
+        write!(
             f,
-            "<text x='200' y='860' font-size='180' fill='#555'>{legend}</text>"
+            "<text x='200' y='860' font-size='180' fill='#555'>{legend}</text>\n"
         )
     }
 }
@@ -27,18 +27,11 @@ struct Numbers<'a>(&'a Report);
 impl fmt::Display for Numbers<'_> {
     fn fmt<W: fmt::Write>(&self, f: &mut fmt::Formatter<W>) -> fmt::Result {
         let report = self.0;
-        write!(f, "picture {} x {}, ", report.width, report.height)?;
-        write!(
-            f,
-            "tiles {} x {}, ",
-            report.sizes.num_tile_columns, report.sizes.num_tile_rows
-        )?;
-        write!(
-            f,
-            "slices {}, cover {}",
-            report.plan.num_slices,
-            CoverWord(report.cover)
-        )
+        write!(f, "picture {} x {}", report.width, report.height)?;
+        write!(f, ", tiles {}", report.sizes.num_tile_columns)?;
+        write!(f, " x {}", report.sizes.num_tile_rows)?;
+        write!(f, ", slices {}", report.plan.num_slices)?;
+        write!(f, ", cover {}", CoverWord(report.cover))
     }
 }
 

@@ -1,5 +1,5 @@
 // Numbers in the drawing.
-use crate::scale::Area;
+use crate::scale::{Area, Attribute};
 use std::fmt;
 
 // With a white edge, so that it can be read on any colour.
@@ -21,7 +21,7 @@ impl Number {
             x: a.x.saturating_add(a.width / 2),
             y: a.y.saturating_add(a.height / 2).saturating_add(size / 3),
             size,
-            style: "text-anchor='middle'",
+            style: " text-anchor='middle' stroke='#fff' paint-order='stroke'>",
         }
     }
 
@@ -33,7 +33,7 @@ impl Number {
             x: a.x.saturating_add(a.width).saturating_sub(size / 2),
             y: a.y.saturating_add(a.height).saturating_sub(size / 2),
             size,
-            style: "text-anchor='end' fill='#444'",
+            style: " text-anchor='end' fill='#444' stroke='#fff' paint-order='stroke'>",
         }
     }
 }
@@ -47,11 +47,9 @@ impl fmt::Display for Number {
             size,
             style,
         } = *self;
-        let edge = size / 6;
-        writeln!(
-            f,
-            "<text x='{x}' y='{y}' font-size='{size}' stroke-width='{edge}' {style} \
-            stroke='#fff' paint-order='stroke'>{n}</text>"
-        )
+        write!(f, "<text{}{}", Attribute("x", x), Attribute("y", y))?;
+        write!(f, "{}", Attribute("font-size", size))?;
+        write!(f, "{}", Attribute("stroke-width", size / 6))?;
+        write!(f, "{style}{n}</text>\n")
     }
 }

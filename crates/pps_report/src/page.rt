@@ -1,4 +1,5 @@
 // The page around what is drawn.
+use crate::scale::Attribute;
 use std::fmt;
 
 // So many units are for a picture, below 1,300 for the lines above it.
@@ -22,31 +23,37 @@ impl<T> Page<Line<T>> {
 }
 
 // Both kinds of hatching, and a white ground.
-const GROUND: &str = "<defs>\n\
-    <pattern id='gap' width='80' height='80' patternUnits='userSpaceOnUse' patternTransform='rotate(45)'>\
-    <rect width='80' height='80' fill='#fdd'/><rect width='30' height='80' fill='#d00'/></pattern>\n\
-    <pattern id='double' width='80' height='80' patternUnits='userSpaceOnUse' patternTransform='rotate(-45)'>\
-    <rect width='15' height='80' fill='#00c'/></pattern>\n\
-    </defs>\n\
-    <rect width='100%' height='100%' fill='#fff'/>";
+const GROUND: [&str; 5] = [
+    "<pattern id='gap' width='80' height='80' patternUnits='userSpaceOnUse' patternTransform='rotate(45)'>",
+    "<rect width='80' height='80' fill='#fdd'/><rect width='30' height='80' fill='#d00'/></pattern>\n",
+    "<pattern id='double' width='80' height='80' patternUnits='userSpaceOnUse' patternTransform='rotate(-45)'>",
+    "<rect width='15' height='80' fill='#00c'/></pattern>\n",
+    "</defs>\n<rect width='100%' height='100%' fill='#fff'/>\n",
+];
 
 impl<T: fmt::Display> fmt::Display for Page<T> {
     fn fmt<W: fmt::Write>(&self, f: &mut fmt::Formatter<W>) -> fmt::Result {
         let all = self.height.saturating_add(1300);
-        let tenth = all / 10;
-        writeln!(
+        let height = Attribute("height", all / 10);
+        write!(
             f,
             "<svg xmlns='http://www.w3.org/2000/svg' viewBox='0 0 10000 {all}' \
-            width='1000' height='{tenth}' font-family='sans-serif'>"
+            width='1000'{height} font-family='sans-serif'>\n<defs>\n"
         )?;
-        writeln!(f, "{GROUND}")?;
+        for part in GROUND {
+            write!(f, "{part}")?;
+        }
         write!(f, "{}", self.content)?;
-        writeln!(f, "</svg>")
+        write!(f, "</svg>\n")
     }
 }
 
 impl<T: fmt::Display> fmt::Display for Line<T> {
     fn fmt<W: fmt::Write>(&self, f: &mut fmt::Formatter<W>) -> fmt::Result {
-        writeln!(f, "<text x='200' y='500' font-size='230'>{}</text>", self.0)
+        write!(
+            f,
+            "<text x='200' y='500' font-size='230'>{}</text>\n",
+            self.0
+        )
     }
 }

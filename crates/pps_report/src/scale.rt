@@ -86,10 +86,22 @@ impl Area {
     }
 }
 
+// An attribute of an SVG element, with a number.
+#[derive(Clone, Copy)]
+pub struct Attribute(pub &'static str, pub u32);
+
+// In pieces of its own: where one can't be written, the others are (`Pieces`).
+impl fmt::Display for Attribute {
+    fn fmt<W: fmt::Write>(&self, f: &mut fmt::Formatter<W>) -> fmt::Result {
+        write!(f, "{}{}{}{}{}", " ", self.0, "='", self.1, "'")
+    }
+}
+
 // The attributes of an SVG rectangle.
 impl fmt::Display for Area {
     fn fmt<W: fmt::Write>(&self, f: &mut fmt::Formatter<W>) -> fmt::Result {
-        write!(f, "x='{}' y='{}' ", self.x, self.y)?;
-        write!(f, "width='{}' height='{}'", self.width, self.height)
+        write!(f, "{}{}", Attribute("x", self.x), Attribute("y", self.y))?;
+        write!(f, "{}", Attribute("width", self.width))?;
+        write!(f, "{}", Attribute("height", self.height))
     }
 }

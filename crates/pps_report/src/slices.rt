@@ -1,6 +1,6 @@
 // The slices, and whether they hold a block.
 use crate::marks::Number;
-use crate::scale::Frame;
+use crate::scale::{Attribute, Frame};
 use slice_loop::CtbCount;
 use std::fmt;
 use tile_grid::SliceRect;
@@ -27,10 +27,10 @@ impl fmt::Display for Slices<'_> {
         for (i, &slice) in self.slices.iter().enumerate() {
             let area = self.frame.area(slice).inset(border / 2);
             let hue = i % 360 * 137 % 360;
-            writeln!(
+            let stroke = Attribute("stroke-width", border);
+            write!(
                 f,
-                "<rect {area} fill='hsl({hue},70%,75%)' fill-opacity='.6' \
-                stroke='#222' stroke-width='{border}'/>"
+                "<rect{area} fill='hsl({hue},70%,75%)' fill-opacity='.6' stroke='#222'{stroke}/>\n"
             )?;
         }
         Ok(())

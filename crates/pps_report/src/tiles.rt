@@ -1,7 +1,7 @@
 // The tiles: borders, numbers, and whether they lie in no slice or in several.
 use crate::marks::Number;
 use crate::report::Report;
-use crate::scale::Frame;
+use crate::scale::{Attribute, Frame};
 use crate::slices::holds;
 use slice_loop::CtbCount;
 use std::fmt;
@@ -16,7 +16,7 @@ struct Tile<'a> {
 }
 
 impl Tile<'_> {
-    // What marks a tile in no slice or in several. A slice holds a tile whole or is cut from it with others that hold
+    // What marks a tile in no slice or in several, up to the end of its rectangle. A slice holds a tile whole or is cut from it with others that hold
     // the rest, so that as many slices hold the first block as any other.
     fn hatching(&self) -> Option<&'static str> {
         if self.slices.is_empty() {
@@ -29,9 +29,9 @@ impl Tile<'_> {
             .take(2)
             .count()
         {
-            0 => Some("gap"),
+            0 => Some(" fill='url(#gap)'/>\n"),
             1 => None,
-            _ => Some("double"),
+            _ => Some(" fill='url(#double)'/>\n"),
         }
     }
 }
@@ -39,13 +39,13 @@ impl Tile<'_> {
 impl fmt::Display for Tile<'_> {
     fn fmt<W: fmt::Write>(&self, f: &mut fmt::Formatter<W>) -> fmt::Result {
         let area = self.frame.area(self.rect);
-        let border = self.frame.border / 3;
+        let stroke = Attribute("stroke-width", self.frame.border / 3);
         if let Some(hatching) = self.hatching() {
-            writeln!(f, "<rect {area} fill='url(#{hatching})'/>")?;
+            write!(f, "<rect{area}{hatching}")?;
         }
-        writeln!(
+        write!(
             f,
-            "<rect {area} fill='none' stroke='#000' stroke-width='{border}' stroke-dasharray='60 40'/>"
+            "<rect{area} fill='none' stroke='#000'{stroke} stroke-dasharray='60 40'/>\n"
         )?;
         write!(f, "{}", Number::in_the_corner(self.number, area))
     }
