@@ -12,9 +12,9 @@ use Rattle.bit_reader.specs.declared.BitReader.{BitReader}
 use Rattle.bit_reader.specs.Reading.{refusal}
 use Rattle.bit_reader.specs.Gives.{Parsed, parsed, cursor_of, Gives, value_read}
 use Rattle.bit_reader.proofs.Gives.{given, given_back, refuses, refused_back, not-0, over}
-use Rattle.syntax.specs.Element.{Element}
+use Rattle.syntax.specs.Element.{ElementOf}
 use Rattle.syntax.specs.Elements.{or_else}
-use Rattle.syntax.specs.Lists.{many, none, cons_more}
+use Rattle.syntax.specs.Lists.{many, none_of, cons_more}
 
 module _ {A : Type 0} (read : List ℕ → Cursor → Parsed A) where
   -- `count` values, each read by `read`. Reading stops at a refusal; the value at which it stops is not in the list
@@ -39,7 +39,7 @@ module _ {A : Type 0} (read : List ℕ → Cursor → Parsed A) where
   list-stops k s c d v e h = rw (← e, ne_eqb d.refused 0 h)
 
 -- a list of the syntax is read so, whatever writing it makes of another length
-pub list-many : {A : Type 0} (count : ℕ) (e : Element A) (n : ℕ) (s : List ℕ) (c : Cursor) → list_read e.read count s c ≡ (many count e n).read s c
+pub list-many : {still : Bool} {A : Type 0} (count : ℕ) (e : ElementOf still A) (n : ℕ) (s : List ℕ) (c : Cursor) → list_read e.read count s c ≡ (many count e n).read s c
 unfolding list_read many
 list-many zero e n s c = refl
 list-many {A} (suc k) e n s c = step (eqb (e.read s c).next.refused 0) (list-many k e n s (e.read s c).next)
@@ -52,8 +52,8 @@ list-many {A} (suc k) e n s c = step (eqb (e.read s c).next.refused 0) (list-man
     step false h = refl
 
 -- a list that is coded where `on`, its length being coded minus 1
-pub many-counted : {A : Type 0} (on : Bool) (n count : ℕ) (e : Element A) (k j : ℕ) (s : List ℕ) (c : Cursor) → count ≡ cond on (n + 1) 0
-    → (many count e k).read s c ≡ (or_else on (many (suc n) e k) (none j)).read s c
+pub many-counted : {still : Bool} {A : Type 0} (on : Bool) (n count : ℕ) (e : ElementOf still A) (k j : ℕ) (s : List ℕ) (c : Cursor) → count ≡ cond on (n + 1) 0
+    → (many count e k).read s c ≡ (or_else on (many (suc n) e k) (none_of j)).read s c
 unfolding many or_else
 many-counted true n count e k j s c h = rw (h, add-one n)
 many-counted false n count e k j s c h = rw h

@@ -7,7 +7,7 @@ use mathlib.Core.List.{List, [], ◌∷◌, ◌++◌, append_assoc}
 use Rattle.std.proofs.Math.Bool.{true}
 use Rattle.std.proofs.lemmas.Bool.{eqb-false}
 use Rattle.codes.specs.Symbols.{Symbol, check, check-true}
-use Rattle.syntax.specs.Element.{Element}
+use Rattle.syntax.specs.Element.{ElementOf}
 use Rattle.syntax.specs.Lists.{many}
 
 eqb-suc : (a b : ℕ) → eqb (suc a) (suc b) ≡ eqb a b
@@ -18,12 +18,12 @@ eqb-suc a b = split (eqb a b) refl
     split false e = ne_eqb (suc a) (suc b) (λ q. eqb-false a b e (omega arith))
 
 module _ {A : Type 0} where
-  unfoldable pub each : Element A → List A → List Symbol
+  unfoldable pub each : {still : Bool} → ElementOf still A → List A → List Symbol
   each e [] = []
   each e (x ∷ xs) = e.symbols x ++ each e xs
 
   -- a list of a given length: its elements, as many as there are up to that length, and then the test of the length
-  pub many-each : (k : ℕ) (e : Element A) (n : ℕ) (l : List A) → (many k e n).symbols l ≡ each e (take k l) ++ check (eqb (length l) k) n
+  pub many-each : {still : Bool} (k : ℕ) (e : ElementOf still A) (n : ℕ) (l : List A) → (many k e n).symbols l ≡ each e (take k l) ++ check (eqb (length l) k) n
   unfolding many each
   many-each zero e n [] = sym (check-true true n refl)
   many-each zero e n (x ∷ l) = rw (ne_eqb (suc (length l)) 0 (λ q. absurd (omega arith)))

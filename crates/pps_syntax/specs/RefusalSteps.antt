@@ -7,7 +7,7 @@ use Rattle.codes.specs.Symbols.{Symbol, first, first-left, first-right, refusal_
 use Rattle.partition.specs.Checks.{Check, refuse, Numbered}
 use Rattle.partition.specs.Entry.{some_at_least}
 use Rattle.pps_syntax.specs.SameTests.{not-under}
-use Rattle.syntax.specs.Element.{Element}
+use Rattle.syntax.specs.Element.{ElementOf}
 use Rattle.syntax.specs.Elements.{ue, limited, Same, or_else, checked-refusal}
 use Rattle.syntax.proofs.Elements.{absent}
 use Rattle.syntax.specs.Lists.{many, none}
@@ -72,7 +72,7 @@ pub ue-quiet : (v : ℕ) → v < 4294967295 → refusal_in (ue_symbols v) ≡ 0
 ue-quiet v h = checked-refusal (ltb v 4294967295) 25 (ue_code v) ∙ rw (lt-ltb v 4294967295 h)
 
 -- a code behind a test, where the test leaves only values that have one
-pub limited-refuses : (e : Element ℕ) (ok : ℕ → Bool) (n v : ℕ) (l : 0 < n) (bad : Bool) → not (ok v) ≡ bad → (bad ≡ false → refusal_in (e.symbols v) ≡ 0)
+pub limited-refuses : {still : Bool} (e : ElementOf still ℕ) (ok : ℕ → Bool) (n v : ℕ) (l : 0 < n) (bad : Bool) → not (ok v) ≡ bad → (bad ≡ false → refusal_in (e.symbols v) ≡ 0)
     → refusal_in ((limited e ok n l).symbols v) ≡ cond bad n 0
 limited-refuses e ok n v l bad q k = refusal-append (check (ok v) n) (e.symbols v) ∙ ap (λ (x : ℕ). first x (refusal_in (e.symbols v))) (check-refuses (ok v) n bad q) ∙ split bad k
   where
@@ -96,13 +96,13 @@ many-refuses limit n m l (v ∷ vs) h =
     split false = first-left (cond (some_at_least limit vs) n 0)
 
 -- an element where `on`, and one that passes over everything elsewhere
-pub or-refuses : {A : Type 0} (on : Bool) (x y : Element A) (v : A) (n : ℕ) (bad : Bool) → (on ≡ true → refusal_in (x.symbols v) ≡ cond bad n 0) → refusal_in (y.symbols v) ≡ 0
+pub or-refuses : {still : Bool} {A : Type 0} (on : Bool) (x y : ElementOf still A) (v : A) (n : ℕ) (bad : Bool) → (on ≡ true → refusal_in (x.symbols v) ≡ cond bad n 0) → refusal_in (y.symbols v) ≡ 0
     → refusal_in ((or_else on x y).symbols v) ≡ cond (on && bad) n 0
 unfolding or_else
 or-refuses true x y v n bad k q = k refl
 or-refuses false x y v n bad k q = q
 
-pub or_quiet : {A : Type 0} (on : Bool) (x y : Element A) (v : A) → (on ≡ true → refusal_in (x.symbols v) ≡ 0) → refusal_in (y.symbols v) ≡ 0 → refusal_in ((or_else on x y).symbols v) ≡ 0
+pub or_quiet : {still : Bool} {A : Type 0} (on : Bool) (x y : ElementOf still A) (v : A) → (on ≡ true → refusal_in (x.symbols v) ≡ 0) → refusal_in (y.symbols v) ≡ 0 → refusal_in ((or_else on x y).symbols v) ≡ 0
 unfolding or_else
 or_quiet true x y v k q = k refl
 or_quiet false x y v k q = q

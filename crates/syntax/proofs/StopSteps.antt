@@ -6,13 +6,13 @@ use Rattle.codes.specs.Coded.{only_if}
 use Rattle.codes.specs.Symbols.{check-none}
 use Rattle.bit_writer.specs.Stop.{play_on}
 use Rattle.bit_writer.specs.Writing.{Writing}
-use Rattle.syntax.specs.Element.{Element}
+use Rattle.syntax.specs.Element.{ElementOf}
 use Rattle.syntax.specs.Elements.{Same, or_else}
-use Rattle.syntax.proofs.Elements.{absent}
+use Rattle.syntax.proofs.Elements.{absent_of}
 
 -- an element that is written where `on`, and passed over elsewhere
-pub stops-or : {A : Type 0} (on : Bool) (e : Element A) (same : Same A) (value v : A) (w : Writing) {x : Writing} → x ≡ play_on w (only_if on (e.symbols v))
-    → x ≡ play_on w ((or_else on e (absent same value 0)).symbols v)
+pub stops-or : {still : Bool} {A : Type 0} (on : Bool) (e : ElementOf still A) (same : Same A) (value v : A) (w : Writing) {x : Writing} → x ≡ play_on w (only_if on (e.symbols v))
+    → x ≡ play_on w ((or_else on e (absent_of same value 0)).symbols v)
 unfolding or_else
 stops-or true e same value v w h = h
 stops-or false e same value v w h = h ∙ ap (play_on w) (sym (check-none (same.test v value)))

@@ -167,8 +167,8 @@ sameℤ =
     }
 
 -- Reading infers a value. Writing takes what passes a test and refuses the rest with n; where n is 0 it takes all
-abbrev pub inferred : {A : Type 0} → Same A → (value : A) (ok : A → Bool) → ok value ≡ true → ℕ → Element A
-inferred {A} same value ok fit n =
+abbrev pub inferred : {still : Bool} {A : Type 0} → Same A → (value : A) (ok : A → Bool) → ok value ≡ true → ℕ → ElementOf still A
+inferred {A = A} same value ok fit n =
     record {
       read = λ s c. parsed value c;
       symbols = λ v. check (ok v) n;
